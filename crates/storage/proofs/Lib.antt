@@ -1,0 +1,3 @@
+pub mod BidCodes
+pub mod Existence
+pub mod SpanCodes

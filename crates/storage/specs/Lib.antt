@@ -1,0 +1,11 @@
+pub mod Bids
+pub mod Faults
+pub mod Memories
+pub mod Pages
+pub mod Quotas
+pub mod Ranges
+pub mod Spans
+pub mod Storages
+pub mod Timestamps
+pub mod Words
+pub mod WorkedCases
