@@ -3,7 +3,7 @@ mod walk;
 
 use std::env;
 use std::io;
-use storage::stable::memory::MemoryStorage;
+use storage::MemoryStorage;
 
 fn main(rt: LibcRuntime) -> io::Result<()> {
     if env::args(&rt)?.count() > 1 {

@@ -1,0 +1,11 @@
+// Tests of the crate storage, through its public calls.
+#[cfg(test)]
+mod entries;
+#[cfg(test)]
+mod quotas;
+#[cfg(test)]
+mod storages;
+#[cfg(test)]
+mod timestamps;
+#[cfg(test)]
+mod wide;
