@@ -7,5 +7,4 @@ pub mod Ranges
 pub mod Spans
 pub mod Storages
 pub mod Timestamps
-pub mod Words
 pub mod WorkedCases

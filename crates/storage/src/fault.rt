@@ -26,7 +26,7 @@ impl StorageFault {
     }
 
     // There is no such replica: a fault of the storage that was called.
-    pub fn no_such_replica(replica: usize) -> StorageFault
+    pub(crate) fn no_such_replica(replica: usize) -> StorageFault
         ensures { λ r. ⌜ r ≡ no-replica replica ⌝ }
     {
         StorageFault {
@@ -37,7 +37,7 @@ impl StorageFault {
     }
 
     // The storage that was called has no store left for a replica.
-    pub fn no_stores_left(replica: usize) -> StorageFault
+    pub(crate) fn no_stores_left(replica: usize) -> StorageFault
         ensures { λ r. ⌜ r ≡ no-stores replica 0 ⌝ }
     {
         StorageFault {
@@ -48,7 +48,7 @@ impl StorageFault {
     }
 
     // The same fault, as the storage above the one that met it passes it on.
-    pub fn from_below(self) -> StorageFault
+    pub(crate) fn from_below(self) -> StorageFault
         ensures { λ r. ⌜ r ≡ lifted self ⌝ }
     {
         StorageFault {

@@ -4,7 +4,6 @@ pub mod fault;
 pub mod page;
 pub mod stable;
 pub mod timestamp;
-pub mod words;
 pub mod worked_cases;
 
 pub use entry::Entry;
@@ -14,6 +13,7 @@ pub use entry::buyer::Buyer;
 pub use entry::price::Price;
 pub use entry::span::Span;
 pub use entry::span::making::SpanIsEntry;
+pub use fault::Reason;
 pub use fault::StorageFault;
 pub use page::Page;
 pub use stable::Storage;

@@ -1,6 +1,4 @@
 // What one replica keeps on stable storage.
-ghost use mathlib.Core.Path.{_≡_};
-ghost use Rattle.storage.specs.Pages.{blank-page};
 use crate::timestamp::Timestamp;
 use crate::timestamp::TimestampDebug;
 use crate::timestamp::TimestampPartialEq;
@@ -19,15 +17,11 @@ pub struct Page {
 
 impl Page {
     // The page of a replica that never stored one: all 0.
-    pub fn blank() -> Page
-        ensures { λ r. ⌜ r ≡ blank-page ⌝ }
-    {
-        Page {
-            incarnation: 0,
-            written: Timestamp::blank(),
-            written_code: 0,
-            intended_sequence: 0,
-            intended_code: 0,
-        }
-    }
+    pub const BLANK: Page = Page {
+        incarnation: 0,
+        written: Timestamp::BLANK,
+        written_code: 0,
+        intended_sequence: 0,
+        intended_code: 0,
+    };
 }

@@ -1,6 +1,6 @@
 // When an entry was written: a sequence number and the replica that chose it.
 ghost use mathlib.Core.Path.{_≡_};
-ghost use Rattle.storage.specs.Timestamps.{later, StrictTotal, blank-timestamp};
+ghost use Rattle.storage.specs.Timestamps.{later, StrictTotal};
 
 // A register uses the sequences 0 to 999,999. A page of storage may hold any other number, so the
 // type does not forbid one.
@@ -15,14 +15,10 @@ impl Timestamp {
     pub const LAST_SEQUENCE: u32 = 999_999;
 
     // The timestamp of a register that was never written.
-    pub fn blank() -> Timestamp
-        ensures { λ r. ⌜ r ≡ blank-timestamp ⌝ }
-    {
-        Timestamp {
-            sequence: 0,
-            replica: 0,
-        }
-    }
+    pub const BLANK: Timestamp = Timestamp {
+        sequence: 0,
+        replica: 0,
+    };
 
     // Whether this timestamp comes after the other: by sequence, then by replica.
     pub fn is_later(self, other: Timestamp) -> bool

@@ -51,7 +51,7 @@ fn layers_add_up_over_a_quota_of_a_quota(rt: LibcRuntime) -> Result<(), Fail> {
         check_eq(told(quota.store(i, sample(1))), first)?;
         check_eq(told(quota.store(i, sample(2))), then)?;
     }
-    check_eq(quota.page(0), Ok(Page::blank()))?;
+    check_eq(quota.page(0), Ok(Page::BLANK))?;
     check_eq(quota.page(2), Ok(sample(1)))?;
     check_eq(quota.stores_left(2), Ok(0))
 }

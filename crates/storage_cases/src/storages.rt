@@ -1,8 +1,10 @@
 // Every refusal of a storage in memory, and what it leaves.
+use crate::wide::refused;
 use std::test::*;
 use storage::MemoryIsStorage;
 use storage::MemoryStorage;
 use storage::Page;
+use storage::Reason;
 use storage::Storage;
 use storage::StorageFault;
 use storage::Timestamp;
@@ -41,7 +43,7 @@ fn a_storage_is_made_for_1_to_15_replicas(rt: LibcRuntime) -> Result<(), Fail> {
             Ok(storage) => {
                 check(number == 0)?;
                 check_eq(storage.replicas(), n)?;
-                check_eq(storage.page(0), Ok(Page::blank()))?;
+                check_eq(storage.page(0), Ok(Page::BLANK))?;
                 check_eq(storage.stores_left(0), Ok(3))?;
             }
             Err(refusal) => check_eq(refusal.number(), number)?,
@@ -57,7 +59,7 @@ fn a_store_takes_one_until_none_is_left(rt: LibcRuntime) -> Result<(), Fail> {
         check_eq(told(storage.store(1, sample(turn))), fault)?;
         check_eq(storage.stores_left(1), Ok(left))?;
         check_eq(storage.page(1), Ok(sample(turn.min(2))))?;
-        check_eq(storage.page(0), Ok(Page::blank()))?;
+        check_eq(storage.page(0), Ok(Page::BLANK))?;
         check_eq(storage.stores_left(0), Ok(2))?;
     }
     Ok(())
@@ -67,10 +69,10 @@ fn a_store_takes_one_until_none_is_left(rt: LibcRuntime) -> Result<(), Fail> {
 fn a_replica_past_the_last_is_refused_before_anything_else(rt: LibcRuntime) -> Result<(), Fail> {
     let mut storage = MemoryStorage::blank(rt.alloc(), 1, 0)?;
     for i in [1, 14, 15, usize::MAX] {
-        let fault = StorageFault::no_such_replica(i);
+        let fault = refused(Reason::NoSuchReplica, i);
         check_eq(storage.page(i), Err(fault))?;
         check_eq(storage.stores_left(i), Err(fault))?;
         check_eq(told(storage.store(i, sample(1))), (8, i, 0))?;
     }
-    check_eq(storage.page(0), Ok(Page::blank()))
+    check_eq(storage.page(0), Ok(Page::BLANK))
 }

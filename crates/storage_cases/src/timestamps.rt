@@ -26,7 +26,7 @@ fn later_is_by_sequence_and_then_by_replica() -> Result<(), Fail> {
         check_eq(one.is_later(other), later)?;
     }
     check_eq(
-        Timestamp::blank(),
+        Timestamp::BLANK,
         Timestamp {
             sequence: 0,
             replica: 0,

@@ -3,6 +3,7 @@ ghost use mathlib.Core.Path.{_≡_};
 ghost use lib.ListN.{getD};
 ghost use Rattle.storage.specs.Memories.{left-at, page-at};
 use storage::Page;
+use storage::Reason;
 use storage::Storage;
 use storage::StorageFault;
 use storage::stable::memory::Cell;
@@ -14,10 +15,20 @@ pub struct WideStorage {
 
 impl WideStorage {
     pub fn blank(left: u32) -> WideStorage {
-        let page = Page::blank();
+        let page = Page::BLANK;
         WideStorage {
             cells: [Cell { page, left }; 20],
         }
+    }
+}
+
+pub fn refused(reason: Reason, replica: usize) -> StorageFault
+    ensures { λ r. ⌜ r ≡ record { reason = reason; replica = replica; layer = 0 } ⌝ }
+{
+    StorageFault {
+        reason,
+        replica,
+        layer: 0,
     }
 }
 
@@ -38,7 +49,7 @@ pub impl Storage for WideStorage as WideIsStorage {
         if i < 20 {
             Ok(self.cells[i].page)
         } else {
-            Err(StorageFault::no_such_replica(i))
+            Err(refused(Reason::NoSuchReplica, i))
         }
     }
 
@@ -46,17 +57,17 @@ pub impl Storage for WideStorage as WideIsStorage {
         if i < 20 {
             Ok(self.cells[i].left)
         } else {
-            Err(StorageFault::no_such_replica(i))
+            Err(refused(Reason::NoSuchReplica, i))
         }
     }
 
     fn store(&mut self, i: usize, new: Page) -> Result<(), StorageFault> {
         if i >= 20 {
-            return Err(StorageFault::no_such_replica(i));
+            return Err(refused(Reason::NoSuchReplica, i));
         }
         let left = self.cells[i].left;
         if left == 0 {
-            return Err(StorageFault::no_stores_left(i));
+            return Err(refused(Reason::NoStoresLeft, i));
         }
         self.cells[i] = Cell {
             page: new,

@@ -1,5 +1,6 @@
 // Follows the stable storage of one lot from start to end, and prints each step in words.
 mod walk;
+mod words;
 
 use std::env;
 use std::io;

@@ -5,6 +5,10 @@ ghost use Rattle.std.specs.Results.{isOk};
 ghost use Rattle.storage.specs.Bids.{bid-code};
 ghost use Rattle.storage.specs.Storages.{answered, stored, updated};
 ghost use Rattle.transfer.specs.Walks.{offer-or-open, with-written};
+use crate::words::BidInWords;
+use crate::words::InWords;
+use crate::words::StorageFaultInWords;
+use crate::words::TimestampInWords;
 use std::io;
 use storage::Bid;
 use storage::BidIsEntry;
@@ -19,9 +23,6 @@ use storage::QuotaStorage;
 use storage::Storage;
 use storage::StorageFault;
 use storage::Timestamp;
-use storage::words::BidDisplay;
-use storage::words::StorageFaultDisplay;
-use storage::words::TimestampDisplay;
 
 // The replica whose page the walk stores.
 const REPLICA: u32 = 1;
@@ -38,11 +39,11 @@ pub fn follow(rt: &LibcRuntime, memory: MemoryStorage) -> io::Result<()> {
     )?;
     for sequence in 1..=5 {
         let bid = bid_of(1_250 + 25 * sequence, 17);
-        println!(rt, "Office {REPLICA} stores {bid}.")?;
+        println!(rt, "Office {REPLICA} stores {}.", InWords(bid))?;
         match store_bid(&mut quota, sequence, &bid) {
             Ok(()) => read_back(rt, &quota)?,
             Err(fault) => {
-                println!(rt, "  Refused: {fault}.")?;
+                println!(rt, "  Refused: {}.", InWords(fault))?;
                 break;
             }
         }
@@ -98,15 +99,15 @@ fn show_pages<S: Storage>(rt: &LibcRuntime, storage: &S) -> io::Result<()> {
 fn show_page<S: Storage>(rt: &LibcRuntime, storage: &S, i: usize) -> io::Result<()> {
     match page_and_left(storage, i) {
         Ok((page, left)) => {
-            let written = page.written;
+            let written = InWords(page.written);
             print!(rt, "office {i} holds mark {written}, ")?;
             match Bid::decode(page.written_code) {
-                Some(bid) => print!(rt, "{bid}")?,
+                Some(bid) => print!(rt, "{}", InWords(bid))?,
                 None => print!(rt, "no bid")?,
             }
             println!(rt, "; stores left {left}")
         }
-        Err(fault) => println!(rt, "refused: {fault}"),
+        Err(fault) => println!(rt, "refused: {}", InWords(fault)),
     }
 }
 

@@ -37,14 +37,14 @@ pub impl Entry for Bid as BidIsEntry {
     }
 
     fn blank() -> Bid {
-        Bid::Open
+        Self::Open
     }
 
     fn code(&self) -> u64 {
         match *self {
             Bid::Open => 0,
             Bid::Offer { price, buyer } => {
-                SORT + price.value() as u64 * 65_536 + buyer.value() as u64
+                SORT + u64::from(price.value) * 65_536 + u64::from(buyer.value)
             }
             Bid::PassedIn => 2 * SORT,
             Bid::Withdrawn => 3 * SORT,

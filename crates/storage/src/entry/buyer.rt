@@ -5,7 +5,7 @@ pub mod making;
 
 #[derive(Clone, Copy, PartialEq, Eq, Debug)]
 pub struct Buyer {
-    value: u16,
+    pub value: u16,
     ghost least: { 1 ≤ value },
     ghost most: { value ≤ 999 },
 }

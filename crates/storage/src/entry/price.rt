@@ -5,7 +5,7 @@ pub mod making;
 
 #[derive(Clone, Copy, PartialEq, Eq, Debug)]
 pub struct Price {
-    value: u32,
+    pub value: u32,
     ghost least: { 1 ≤ value },
     ghost most: { value ≤ 99999 },
 }

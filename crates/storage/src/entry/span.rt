@@ -7,8 +7,8 @@ pub mod making;
 
 #[derive(Clone, Copy, PartialEq, Eq, Debug)]
 pub struct Span {
-    offset: u32,
-    length: u32,
+    pub offset: u32,
+    pub length: u32,
     ghost ends: { offset + length ≤ 4294967295 },
     ghost plain: { (length ≡ 0 → offset ≡ 0) },
 }

@@ -8,14 +8,12 @@ ghost use Rattle.storage.specs.Memories.{blank-cell, count-fits, left-at, made
 ghost use Rattle.storage.specs.declared.stable.memory.MakeError.the-variants.{NoMemory};
 use crate::fault::StorageFault;
 use crate::page::Page;
-use crate::page::PageDebug;
-use crate::page::PagePartialEq;
 use crate::stable::Storage;
 use std::alloc::AllocError;
 use std::alloc::Global;
 
 // A replica's place in the table.
-#[derive(Clone, Copy, PartialEq, Eq, Debug)]
+#[derive(Clone, Copy)]
 pub struct Cell {
     pub page: Page,
     pub left: u32,
@@ -58,7 +56,7 @@ impl MemoryStorage {
             return Err(MakeError::ReplicaCount);
         }
         let cell = Cell {
-            page: Page::blank(),
+            page: Page::BLANK,
             left: stores,
         };
         let cells = vec![in heap; cell; n]?;

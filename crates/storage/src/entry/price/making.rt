@@ -1,10 +1,7 @@
-// Making a price of a number, and the number of a price.
+// Making a price of a number.
 ghost use mathlib.Core.Path.{_≡_};
-ghost use Rattle.std.specs.Written.{decimal};
-ghost use Rattle.std.specs.declared.option.Option.the-variants.{Some};
 ghost use Rattle.storage.specs.Bids.{price-of};
 use super::Price;
-use std::fmt;
 
 impl Price {
     pub fn new(value: u32) -> Option<Price>
@@ -15,20 +12,5 @@ impl Price {
         } else {
             None
         }
-    }
-
-    pub fn value(self) -> u32
-        ensures { λ r. ⌜ r ≡ self .value ⌝ }
-    {
-        self.value
-    }
-}
-
-pub impl fmt::Display for Price as PriceDisplay {
-    ghost shown = { λ x. Some (decimal (x .value)) };
-
-    fn fmt<W: fmt::Write>(&self, f: &mut fmt::Formatter<W>) -> fmt::Result {
-        let value = self.value;
-        write!(f, "{value}")
     }
 }

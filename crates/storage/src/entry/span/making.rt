@@ -1,11 +1,8 @@
 // Kind 2: a span as an entry.
 ghost use mathlib.Core.Path.{_≡_};
-ghost use Rattle.std.specs.declared.option.Option.the-variants.{Some};
 ghost use Rattle.storage.specs.Spans.{span-code, span-decoded, span-of, no-span};
-ghost use Rattle.storage.specs.Words.{span-words};
 use super::Span;
 use crate::entry::Entry;
-use std::fmt;
 
 impl Span {
     pub fn new(offset: u32, length: u32) -> Option<Span>
@@ -16,18 +13,6 @@ impl Span {
         } else {
             None
         }
-    }
-
-    pub fn offset(self) -> u32
-        ensures { λ r. ⌜ r ≡ self .offset ⌝ }
-    {
-        self.offset
-    }
-
-    pub fn length(self) -> u32
-        ensures { λ r. ⌜ r ≡ self .length ⌝ }
-    {
-        self.length
     }
 }
 
@@ -54,7 +39,7 @@ pub impl Entry for Span as SpanIsEntry {
     }
 
     fn code(&self) -> u64 {
-        self.offset as u64 * 4_294_967_296 + self.length as u64
+        u64::from(self.offset) * 4_294_967_296 + u64::from(self.length)
     }
 
     fn decode(number: u64) -> Option<Span> {
@@ -62,15 +47,5 @@ pub impl Entry for Span as SpanIsEntry {
             (number / 4_294_967_296) as u32,
             (number % 4_294_967_296) as u32,
         )
-    }
-}
-
-pub impl fmt::Display for Span as SpanDisplay {
-    ghost shown = { λ s. Some (span-words s) };
-
-    fn fmt<W: fmt::Write>(&self, f: &mut fmt::Formatter<W>) -> fmt::Result {
-        let length = self.length;
-        let offset = self.offset;
-        write!(f, "{length} bytes from {offset}")
     }
 }

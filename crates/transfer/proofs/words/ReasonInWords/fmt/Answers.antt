@@ -1,4 +1,4 @@
-use Rattle.storage.proofs.words.ReasonDisplay.fmt.Needs as need
+use Rattle.transfer.proofs.words.ReasonInWords.fmt.Needs as need
 
 pub returns-in-NoStoresLeft : need.returns-in-NoStoresLeft
 returns-in-NoStoresLeft g c = rw (c .in-NoStoresLeft .is) (c .write-str-in-NoStoresLeft .ensures .prints)
