@@ -2,9 +2,12 @@ pub mod Bids
 pub mod Faults
 pub mod Memories
 pub mod Pages
+pub mod Quorums
 pub mod Quotas
 pub mod Ranges
+pub mod ReplicaSets
 pub mod Spans
 pub mod Storages
 pub mod Timestamps
+pub mod Weights
 pub mod WorkedCases

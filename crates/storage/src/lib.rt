@@ -1,7 +1,9 @@
-// The lowest layer of the register: entries, timestamps, pages and stable storage.
+// The lowest layer of the register: entries, timestamps, pages, stable storage and quorums.
 pub mod entry;
 pub mod fault;
 pub mod page;
+pub mod quorum;
+pub mod replica_set;
 pub mod stable;
 pub mod timestamp;
 pub mod worked_cases;
@@ -16,6 +18,14 @@ pub use entry::span::making::SpanIsEntry;
 pub use fault::Reason;
 pub use fault::StorageFault;
 pub use page::Page;
+pub use quorum::Quorum;
+pub use quorum::majority::Majority;
+pub use quorum::majority::making::MajorityIsQuorum;
+pub use quorum::refusal::QuorumRefusal;
+pub use quorum::shared_replica;
+pub use quorum::weighted::Weighted;
+pub use quorum::weighted::making::WeightedIsQuorum;
+pub use replica_set::ReplicaSet;
 pub use stable::Storage;
 pub use stable::memory::MemoryIsStorage;
 pub use stable::memory::MemoryStorage;

@@ -101,5 +101,5 @@ fn a_span_ends_within_32_bits_and_is_not_empty_past_0() -> Result<(), Fail> {
 
 #[test]
 fn worked_cases_are_counted() -> Result<(), Fail> {
-    check_eq(worked_cases(), 5)
+    check_eq(worked_cases(), 14)
 }

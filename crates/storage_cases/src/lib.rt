@@ -2,6 +2,8 @@
 #[cfg(test)]
 mod entries;
 #[cfg(test)]
+mod quorums;
+#[cfg(test)]
 mod quotas;
 #[cfg(test)]
 mod storages;
