@@ -21,6 +21,17 @@ fn number_at(numbers: &[u32], i: usize) -> u32
     if i < numbers.len() { numbers[i] } else { 0 }
 }
 
+// The allowances of replicas 0 to 14: those given, and 0 where none is.
+fn allowances_of(given: &[u32]) -> [u32; 15]
+    ensures { λ r. ⌜ r ≡ allowed (now (given .entry)) ⌝ }
+{
+    let mut allowances = [0; 15];
+    for i in 0..15 {
+        allowances[i] = number_at(given, i);
+    }
+    allowances
+}
+
 impl<S: Storage> QuotaStorage<S> {
     // A quota over `below`: replica i may store `given[i]` times, and one for which no allowance
     // is given, or that is not below 15, not at all.
@@ -28,11 +39,10 @@ impl<S: Storage> QuotaStorage<S> {
         ensures below { λ r. ⌜ r .below ≡ below ⌝ }
         ensures allowances { λ r. ⌜ r .allowances ≡ allowed (now (given .entry)) ⌝ }
     {
-        let mut allowances = [0; 15];
-        for i in 0..15 {
-            allowances[i] = number_at(given, i);
+        QuotaStorage {
+            below,
+            allowances: allowances_of(given),
         }
-        QuotaStorage { below, allowances }
     }
 
     // Gives the storage below back.
