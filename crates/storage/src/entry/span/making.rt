@@ -14,6 +14,16 @@ impl Span {
             None
         }
     }
+
+    // The span of a register that was never written.
+    fn empty() -> Span
+        ensures { λ r. ⌜ r ≡ no-span ⌝ }
+    {
+        Span {
+            offset: 0,
+            length: 0,
+        }
+    }
 }
 
 pub impl Entry for Span as SpanIsEntry {
@@ -32,10 +42,7 @@ pub impl Entry for Span as SpanIsEntry {
     }
 
     fn blank() -> Span {
-        Span {
-            offset: 0,
-            length: 0,
-        }
+        Span::empty()
     }
 
     fn code(&self) -> u64 {
