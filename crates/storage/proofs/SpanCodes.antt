@@ -1,7 +1,7 @@
 -- The code of a span decodes to that span. Assumes nothing.
 use mathlib.Core.HLevel.{→-prop}
 use mathlib.Core.Path.{_≡_, _∙_, ap₂}
-use Prim.Native.Nat.{ℕ, _+_, _/_, _%_, _^_}
+use Prim.Native.Nat.{_+_, _/_, _%_, _^_}
 use native.Mathlib.Bridge.{le-prop}
 use native.Mathlib.Decide.{decLe}
 use native.Mathlib.Nat.{ℕ-set}

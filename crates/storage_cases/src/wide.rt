@@ -1,6 +1,5 @@
 // A storage of 20 replicas, more than a quota has allowances.
 ghost use mathlib.Core.Path.{_≡_};
-ghost use lib.ListN.{getD};
 ghost use Rattle.storage.specs.Memories.{left-at, page-at};
 use storage::Page;
 use storage::Reason;

@@ -1,5 +1,4 @@
 // Kind 1: the bid that stands for a lot.
-ghost use mathlib.Core.Path.{_≡_};
 ghost use Rattle.storage.specs.Bids.{bid-code, bid-decoded, open-bid};
 use crate::entry::Entry;
 use crate::entry::buyer::Buyer;

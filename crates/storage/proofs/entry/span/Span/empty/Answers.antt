@@ -2,7 +2,6 @@ use mathlib.Core.HLevel.{→-prop}
 use mathlib.Core.Path.{ap₂}
 use native.Mathlib.Bridge.{le-prop}
 use native.Mathlib.Nat.{ℕ-set}
-use Rattle.storage.specs.declared.entry.span.Span.{Span}
 use Rattle.storage.proofs.entry.span.Span.empty.Needs as need
 
 pub returns : need.returns
