@@ -1,0 +1,10 @@
+pub mod Effects
+pub mod Faults
+pub mod Messages
+pub mod Operations
+pub mod Reactions
+pub mod Receipts
+pub mod Records
+pub mod Recoveries
+pub mod Refusals
+pub mod Steps
