@@ -1,6 +1,8 @@
-// The lowest layer of the register: entries, timestamps, pages, stable storage and quorums.
+// The lowest layer of the register: entries, timestamps, pages, stable storage, the
+// transfer file and quorums.
 pub mod entry;
 pub mod fault;
+pub mod file;
 pub mod page;
 pub mod quorum;
 pub mod replica_set;
@@ -17,6 +19,10 @@ pub use entry::span::Span;
 pub use entry::span::making::SpanIsEntry;
 pub use fault::Reason;
 pub use fault::StorageFault;
+pub use file::opening::OpenRefusal;
+pub use file::taken::FileIsStorage;
+pub use file::taken::FileStorage;
+pub use file::writing::WriteRefusal;
 pub use page::Page;
 pub use quorum::Quorum;
 pub use quorum::majority::Majority;
