@@ -2,6 +2,8 @@
 #[cfg(test)]
 mod entries;
 #[cfg(test)]
+mod files;
+#[cfg(test)]
 mod quorums;
 #[cfg(test)]
 mod quotas;
