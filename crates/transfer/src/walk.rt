@@ -3,17 +3,24 @@ ghost use mathlib.Core.Bool.{cond};
 ghost use mathlib.Core.Path.{_≡_};
 ghost use Rattle.std.specs.Results.{isOk};
 ghost use Rattle.storage.specs.Bids.{bid-code};
-ghost use Rattle.storage.specs.Storages.{answered, stored, updated};
+ghost use Rattle.storage.specs.Storages.{stored, updated};
 ghost use Rattle.transfer.specs.Walks.{offer-or-open, with-written};
+use crate::command::Kind;
+use crate::table::page_and_left;
+use crate::table::show_pages;
 use crate::words::BidInWords;
 use crate::words::InWords;
+use crate::words::OpenRefusalInWords;
 use crate::words::StorageFaultInWords;
 use crate::words::TimestampInWords;
+use crate::words::WriteRefusalInWords;
 use std::io;
 use storage::Bid;
 use storage::BidIsEntry;
 use storage::Buyer;
 use storage::Entry;
+use storage::FileIsStorage;
+use storage::FileStorage;
 use storage::MemoryIsStorage;
 use storage::MemoryStorage;
 use storage::Page;
@@ -23,6 +30,10 @@ use storage::QuotaStorage;
 use storage::Storage;
 use storage::StorageFault;
 use storage::Timestamp;
+use storage::fault::StorageFaultPartialEq;
+use storage::file::opening::open;
+use storage::file::writing::write;
+use storage::page::PagePartialEq;
 
 // The replica whose page the walk stores.
 const REPLICA: u32 = 1;
@@ -49,9 +60,11 @@ pub fn follow(rt: &LibcRuntime, memory: MemoryStorage) -> io::Result<()> {
         }
     }
     println!(rt, "All pages, under the quota:")?;
-    show_pages(rt, &quota)?;
+    show_pages(rt, &quota, Kind::Bid)?;
+    let memory = quota.into_below();
     println!(rt, "All pages, the quota taken off:")?;
-    show_pages(rt, &quota.into_below())
+    show_pages(rt, &memory, Kind::Bid)?;
+    send(rt, &memory)
 }
 
 // A bid of so many cents by a buyer, or an open one where there is no such price or buyer.
@@ -81,39 +94,55 @@ fn store_bid<S: Storage>(storage: &mut S, sequence: u32, bid: &Bid) -> Result<()
     storage.store(REPLICA as usize, page)
 }
 
+// Prints what the replica has kept now.
 fn read_back<S: Storage>(rt: &LibcRuntime, storage: &S) -> io::Result<()> {
-    print!(rt, "  Read back: ")?;
-    show_page(rt, storage, REPLICA as usize)
-}
-
-// Prints a line for each replica.
-fn show_pages<S: Storage>(rt: &LibcRuntime, storage: &S) -> io::Result<()> {
-    for i in 0..storage.replicas() {
-        print!(rt, "  ")?;
-        show_page(rt, storage, i)?;
-    }
-    Ok(())
-}
-
-// Prints what replica i has kept, and how many stores are left to it.
-fn show_page<S: Storage>(rt: &LibcRuntime, storage: &S, i: usize) -> io::Result<()> {
-    match page_and_left(storage, i) {
+    match page_and_left(storage, REPLICA as usize) {
         Ok((page, left)) => {
-            let written = InWords(page.written);
-            print!(rt, "office {i} holds mark {written}, ")?;
+            let mark = InWords(page.written);
             match Bid::decode(page.written_code) {
-                Some(bid) => print!(rt, "{}", InWords(bid))?,
-                None => print!(rt, "no bid")?,
+                Some(bid) => println!(
+                    rt,
+                    "  Read back: mark {mark}, {}; stores left {left}.",
+                    InWords(bid)
+                ),
+                None => println!(rt, "  Read back: mark {mark}, no bid; stores left {left}."),
             }
-            println!(rt, "; stores left {left}")
         }
-        Err(fault) => println!(rt, "refused: {}", InWords(fault)),
+        Err(fault) => println!(rt, "  Refused: {}.", InWords(fault)),
     }
 }
 
-// The page of replica i and the stores that are left to it.
-fn page_and_left<S: Storage>(storage: &S, i: usize) -> Result<(Page, u32), StorageFault>
-    ensures { λ r. ⌜ r ≡ answered (replicas (now (storage .entry))) i (page (now (storage .entry)) i, left (now (storage .entry)) i) ⌝ }
-{
-    Ok((storage.page(i)?, storage.stores_left(i)?))
+// Writes the pages to a file in memory, opens it, takes it as a storage, and compares.
+fn send<S: Storage>(rt: &LibcRuntime, storage: &S) -> io::Result<()> {
+    let mut file = vec![in rt.alloc(); 0u8; 136]?;
+    if let Err(refusal) = write::<Bid, S>(storage, &mut file) {
+        return println!(rt, "No file was written: {}.", InWords(refusal));
+    }
+    println!(rt, "Written to a file of 136 bytes.")?;
+    match open::<Bid>(&file) {
+        Ok(n) => println!(rt, "Opened: {n} offices.")?,
+        Err(refusal) => return println!(rt, "Refused: {}.", InWords(refusal)),
+    }
+    let taken = FileStorage::take::<Bid>(file);
+    if same_pages(storage, &taken) {
+        println!(
+            rt,
+            "Taken as a storage: every page and number of stores is the same."
+        )
+    } else {
+        println!(rt, "Taken as a storage: a page differs.")
+    }
+}
+
+// Whether two storages have the same replicas, pages and stores left.
+fn same_pages<S: Storage, T: Storage>(one: &S, other: &T) -> bool {
+    if one.replicas() != other.replicas() {
+        return false;
+    }
+    for i in 0..one.replicas() {
+        if page_and_left(one, i) != page_and_left(other, i) {
+            return false;
+        }
+    }
+    true
 }

@@ -1,12 +1,14 @@
 // Entries, timestamps and faults in words that a clerk can read.
 ghost use Rattle.std.specs.declared.option.Option.the-variants.{Some};
-ghost use Rattle.transfer.specs.Words.{bid-words, fault-words, reason-words, span-words, timestamp-words};
+ghost use Rattle.transfer.specs.Words.{bid-words, fault-words, open-words, reason-words, span-words, timestamp-words, write-words};
 use std::fmt;
 use storage::Bid;
+use storage::OpenRefusal;
 use storage::Reason;
 use storage::Span;
 use storage::StorageFault;
 use storage::Timestamp;
+use storage::WriteRefusal;
 
 // What is to be printed in words.
 #[derive(Clone, Copy)]
@@ -68,5 +70,29 @@ pub impl fmt::Display for InWords<StorageFault> as StorageFaultInWords {
         let replica = self.0.replica;
         let layer = self.0.layer;
         write!(f, "{reason}: office {replica}, layer {layer}")
+    }
+}
+
+pub impl fmt::Display for InWords<OpenRefusal> as OpenRefusalInWords {
+    ghost shown = { λ r. Some (open-words (r .0)) };
+
+    fn fmt<W: fmt::Write>(&self, f: &mut fmt::Formatter<W>) -> fmt::Result {
+        match self.0 {
+            OpenRefusal::Length => f.write_str("1 not of exact length"),
+            OpenRefusal::Header => f.write_str("2 header"),
+            OpenRefusal::Kind => f.write_str("3 kind number"),
+            OpenRefusal::Pair(pair) => write!(f, "4 pair {pair}"),
+        }
+    }
+}
+
+pub impl fmt::Display for InWords<WriteRefusal> as WriteRefusalInWords {
+    ghost shown = { λ r. Some (write-words (r .0)) };
+
+    fn fmt<W: fmt::Write>(&self, f: &mut fmt::Formatter<W>) -> fmt::Result {
+        match self.0 {
+            WriteRefusal::Length => f.write_str("1 not of exact length"),
+            WriteRefusal::ReplicaCount => f.write_str("5 not 1 to 15 offices"),
+        }
     }
 }
