@@ -26,6 +26,7 @@ head-bytes n kind = n ∷ kind ∷ 0 ∷ 0 ∷ []
 abbrev pub pair-bytes : ℕ → ℕ → List ℕ
 pair-bytes n i = bytes-of 4 (place n i) ++ bytes-of 4 36
 
+-- the pairs of replicas 0 to n - 1
 abbrev pub pairs-bytes : ℕ → List ℕ
 pairs-bytes n = joined (pair-bytes n) (counting 0 n)
 

@@ -2,13 +2,11 @@
 ghost use Rattle.storage.specs.Bids.{bid-code, bid-decoded, open-bid};
 use crate::entry::Entry;
 use crate::entry::buyer::Buyer;
-use crate::entry::buyer::BuyerDebug;
 use crate::entry::buyer::BuyerPartialEq;
 use crate::entry::price::Price;
-use crate::entry::price::PriceDebug;
 use crate::entry::price::PricePartialEq;
 
-#[derive(Clone, Copy, PartialEq, Eq, Debug)]
+#[derive(Clone, Copy, PartialEq, Eq)]
 pub enum Bid {
     // no bid yet: the blank entry
     Open,

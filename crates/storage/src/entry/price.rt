@@ -3,7 +3,7 @@ ghost use Prim.Native.Nat.{_≤_};
 
 pub mod making;
 
-#[derive(Clone, Copy, PartialEq, Eq, Debug)]
+#[derive(Clone, Copy, PartialEq, Eq)]
 pub struct Price {
     pub value: u32,
     ghost least: { 1 ≤ value },

@@ -24,6 +24,7 @@ fn put_pair(bytes: &mut [u8], n: usize, i: usize)
     put_u32(bytes, 8 + 8 * i, 36);
 }
 
+// The pairs of all n replicas.
 fn put_pairs(bytes: &mut [u8], n: usize)
     requires few { ⌜ n ≤ 15 ⌝ }
     requires room { ⌜ 4 + 8 * n ≤ length (now bytes) ⌝ }

@@ -18,6 +18,7 @@ use crate::page::Page;
 use crate::stable::Storage;
 use crate::stable::memory::Cell;
 
+// The bytes, and what they are a file of.
 #[derive(Drop)]
 pub struct FileStorage {
     bytes: Vec<u8>,
