@@ -9,7 +9,7 @@ use Rattle.replica.specs.Effects.{Effect, Place, store-at}
 use Rattle.replica.specs.Faults.{used-up}
 use Rattle.replica.specs.Messages.{ack, report, ticket, update}
 use Rattle.replica.specs.Reactions.{ending, nothing, replying, updating}
-use Rattle.replica.specs.Records.{next-round, opened, standing}
+use Rattle.replica.specs.Records.{next-round, opened, with-status}
 use Rattle.replica.specs.Steps.{action, noticed}
 use Rattle.replica.specs.declared.fault.Cause.the-variants.{Storage}
 use Rattle.replica.specs.declared.fault.ReplicaFault.{ReplicaFault}
@@ -74,12 +74,12 @@ intended-if (Ok u) a r = record {
   stores = Some (intending (a .page) (r .best .sequence + 1) (r .«write_code»));
   answer = Ok (updating (update (a .own) (ticket (a .page .incarnation) (next-round r)) (chosen a r) (r .«write_code»)) true);
 }
-intended-if (Err f) a r = failing (standing status.Idle r) (record { cause = Storage f; task = NotingIntention })
+intended-if (Err f) a r = failing (with-status status.Idle r) (record { cause = Storage f; task = NotingIntention })
 
 -- a writer that has heard of the last sequence has no timestamp to write with
 abbrev pub writer-updates : Place → Replica → Received
 writer-updates a r =
-    cond (leb 999999 (r .best .sequence)) (failing (standing status.Idle r) (used-up (a .own))) (intended-if (store-at a) a r)
+    cond (leb 999999 (r .best .sequence)) (failing (with-status status.Idle r) (used-up (a .own))) (intended-if (store-at a) a r)
 
 abbrev pub is-reading : Status → Bool
 is-reading status.Down = false
@@ -107,7 +107,7 @@ reported status.Recovering r = Recovered
 
 -- an acknowledgement was heard: once enough are, the operation is finished and the replica idle
 abbrev pub acknowledged : ((ℕ → Bool) → Bool) → Replica → Replica × Reaction
-acknowledged enough r = cond (enough (member (r .heard))) (standing status.Idle r, ending (reported (r .status) r) false) (r, nothing)
+acknowledged enough r = cond (enough (member (r .heard))) (with-status status.Idle r, ending (reported (r .status) r) false) (r, nothing)
 
 -- each action's effect, on the record as the step left it
 abbrev pub followed : Step → ((ℕ → Bool) → Bool) → Place → Replica → Message → Received

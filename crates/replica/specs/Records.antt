@@ -21,8 +21,8 @@ abbrev pub idle : Replica
 idle = opened Idle 0 blank-timestamp 0 0
 
 -- the same record under another status
-abbrev pub standing : Status → Replica → Replica
-standing s r = record { status = s; round = r .round; heard = r .heard; best = r .best; «best_code» = r .«best_code»; «write_code» = r .«write_code» }
+abbrev pub with-status : Status → Replica → Replica
+with-status s r = record { status = s; round = r .round; heard = r .heard; best = r .best; «best_code» = r .«best_code»; «write_code» = r .«write_code» }
 
 -- the sender is heard
 abbrev pub hearing : Replica → Message → Replica

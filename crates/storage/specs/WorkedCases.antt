@@ -37,9 +37,9 @@ set-of [] k = false
 set-of (m ∷ ms) k = eqb k m || set-of ms k
 
 -- what a rule answers of a set, or why there is no such rule
-abbrev pub told : {Q : Type 0} → (Q → (ℕ → Bool) → Bool) → (ℕ → Bool) → Result Q QuorumRefusal → Result Bool QuorumRefusal
-told enough f (Ok q) = Ok (enough q f)
-told enough f (Err e) = Err e
+abbrev pub verdict : {Q : Type 0} → (Q → (ℕ → Bool) → Bool) → (ℕ → Bool) → Result Q QuorumRefusal → Result Bool QuorumRefusal
+verdict enough f (Ok q) = Ok (enough q f)
+verdict enough f (Err e) = Err e
 
 abbrev pub Holds : Case → Type 0
 Holds (offer c p b) = (isSome (bid-decoded c) ≡ true) × (bid-decoded c ≡ offer-of (price-of p) (buyer-of b))
@@ -47,8 +47,8 @@ Holds (no-bid c) = bid-decoded c ≡ None
 Holds (span c o l) = (isSome (span-decoded c) ≡ true) × (span-decoded c ≡ span-of o l)
 Holds (fits o l) = isSome (span-of o l) ≡ true
 Holds (too-long o l) = span-of o l ≡ None
-Holds (majority n ms answer) = told majority-enough (set-of ms) (majority-of n) ≡ answer
-Holds (weighted ws ms answer) = told weighted-enough (set-of ms) (weighted-of ws) ≡ answer
+Holds (majority n ms answer) = verdict majority-enough (set-of ms) (majority-of n) ≡ answer
+Holds (weighted ws ms answer) = verdict weighted-enough (set-of ms) (weighted-of ws) ≡ answer
 
 abbrev pub cases : List Case
 cases =

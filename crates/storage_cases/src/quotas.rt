@@ -1,6 +1,6 @@
 // A quota over a storage, over another quota, and over more replicas than it has allowances.
+use crate::storages::fault_parts;
 use crate::storages::sample;
-use crate::storages::told;
 use crate::wide::WideIsStorage;
 use crate::wide::WideStorage;
 use std::test::*;
@@ -32,7 +32,7 @@ fn the_smaller_number_of_stores_counts(rt: LibcRuntime) -> Result<(), Fail> {
     ] {
         let _ = quota.store(i, sample(1));
         let _ = quota.store(i, sample(2));
-        check_eq(told(quota.store(i, sample(3))), fault)?;
+        check_eq(fault_parts(quota.store(i, sample(3))), fault)?;
     }
     let memory = quota.into_below();
     check_eq(memory.stores_left(0), Ok(1))?;
@@ -48,8 +48,8 @@ fn layers_add_up_over_a_quota_of_a_quota(rt: LibcRuntime) -> Result<(), Fail> {
         (1, (17, 1, 1), (17, 1, 1)),
         (2, (0, 0, 0), (17, 2, 2)),
     ] {
-        check_eq(told(quota.store(i, sample(1))), first)?;
-        check_eq(told(quota.store(i, sample(2))), then)?;
+        check_eq(fault_parts(quota.store(i, sample(1))), first)?;
+        check_eq(fault_parts(quota.store(i, sample(2))), then)?;
     }
     check_eq(quota.page(0), Ok(Page::BLANK))?;
     check_eq(quota.page(2), Ok(sample(1)))?;
@@ -63,10 +63,10 @@ fn a_replica_without_an_allowance_may_not_store() -> Result<(), Fail> {
     for (i, left) in [(0, 1), (14, 1), (15, 0), (19, 0)] {
         check_eq(quota.stores_left(i), Ok(left))?;
         check_eq(quota.store(i, sample(1)).is_ok(), left == 1)?;
-        check_eq(told(quota.store(i, sample(2))), (17, i, 0))?;
+        check_eq(fault_parts(quota.store(i, sample(2))), (17, i, 0))?;
     }
-    check_eq(told(quota.store(20, sample(1))), (8, 20, 0))?;
+    check_eq(fault_parts(quota.store(20, sample(1))), (8, 20, 0))?;
     let mut short = QuotaStorage::over(quota.into_below(), &[3]);
     check_eq(short.stores_left(0), Ok(3))?;
-    check_eq(told(short.store(1, sample(1))), (17, 1, 0))
+    check_eq(fault_parts(short.store(1, sample(1))), (17, 1, 0))
 }

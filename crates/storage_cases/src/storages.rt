@@ -29,7 +29,7 @@ pub fn sample(incarnation: u32) -> Page {
 }
 
 // The number, replica and layer of a fault, and 0 where there is none.
-pub fn told(answer: Result<(), StorageFault>) -> (u8, usize, u8) {
+pub fn fault_parts(answer: Result<(), StorageFault>) -> (u8, usize, u8) {
     match answer {
         Ok(()) => (0, 0, 0),
         Err(fault) => (fault.number(), fault.replica, fault.layer),
@@ -56,7 +56,7 @@ fn a_storage_is_made_for_1_to_15_replicas(rt: LibcRuntime) -> Result<(), Fail> {
 fn a_store_takes_one_until_none_is_left(rt: LibcRuntime) -> Result<(), Fail> {
     let mut storage = MemoryStorage::blank(rt.alloc(), 2, 2)?;
     for (turn, left, fault) in [(1, 1, (0, 0, 0)), (2, 0, (0, 0, 0)), (3, 0, (17, 1, 0))] {
-        check_eq(told(storage.store(1, sample(turn))), fault)?;
+        check_eq(fault_parts(storage.store(1, sample(turn))), fault)?;
         check_eq(storage.stores_left(1), Ok(left))?;
         check_eq(storage.page(1), Ok(sample(turn.min(2))))?;
         check_eq(storage.page(0), Ok(Page::BLANK))?;
@@ -72,7 +72,7 @@ fn a_replica_past_the_last_is_refused_before_anything_else(rt: LibcRuntime) -> R
         let fault = refused(Reason::NoSuchReplica, i);
         check_eq(storage.page(i), Err(fault))?;
         check_eq(storage.stores_left(i), Err(fault))?;
-        check_eq(told(storage.store(i, sample(1))), (8, i, 0))?;
+        check_eq(fault_parts(storage.store(i, sample(1))), (8, i, 0))?;
     }
     check_eq(storage.page(0), Ok(Page::BLANK))
 }

@@ -29,12 +29,12 @@ pub fn show_pages<S: Storage>(rt: &LibcRuntime, storage: &S, kind: Kind) -> io::
 
 // The line of replica i: what it has kept, and the write that it intends, if any.
 fn show_page(rt: &LibcRuntime, i: usize, page: &Page, left: u32, kind: Kind) -> io::Result<()> {
-    let spell = page.incarnation;
+    let incarnation = page.incarnation;
     let sequence = page.written.sequence;
     let replica = page.written.replica;
     print!(
         rt,
-        "{i:>6}  {left:>11}  {spell:>5}  {sequence:>7}.{replica:<2}  "
+        "{i:>6}  {left:>11}  {incarnation:>5}  {sequence:>7}.{replica:<2}  "
     )?;
     print_entry(rt, page.written_code, kind)?;
     if page.intended_sequence > 0 {

@@ -98,14 +98,17 @@ fn store_bid<S: Storage>(storage: &mut S, sequence: u32, bid: &Bid) -> Result<()
 fn read_back<S: Storage>(rt: &LibcRuntime, storage: &S) -> io::Result<()> {
     match page_and_left(storage, REPLICA as usize) {
         Ok((page, left)) => {
-            let mark = InWords(page.written);
+            let written = InWords(page.written);
             match Bid::decode(page.written_code) {
                 Some(bid) => println!(
                     rt,
-                    "  Read back: mark {mark}, {}; stores left {left}.",
+                    "  Read back: mark {written}, {}; stores left {left}.",
                     InWords(bid)
                 ),
-                None => println!(rt, "  Read back: mark {mark}, no bid; stores left {left}."),
+                None => println!(
+                    rt,
+                    "  Read back: mark {written}, no bid; stores left {left}."
+                ),
             }
         }
         Err(fault) => println!(rt, "  Refused: {}.", InWords(fault)),
