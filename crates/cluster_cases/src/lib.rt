@@ -1,0 +1,5 @@
+// Tests of the crate cluster, through its public calls.
+#[cfg(test)]
+mod refusals;
+#[cfg(test)]
+mod runs;
