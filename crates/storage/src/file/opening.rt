@@ -7,7 +7,7 @@ ghost use Rattle.std.specs.Options.{Cases as BySome};
 ghost use Rattle.std.specs.Results.{isOk};
 ghost use Rattle.std.specs.declared.result.Result.the-variants.{Ok};
 ghost use Rattle.storage.specs.Files.{Accepted, RightPair, count-in, file-held, file-length, file-of, record-in};
-ghost use Rattle.storage.specs.Opened.{NamesWrong, open-number, opened, wrong-pair};
+ghost use Rattle.storage.specs.Opened.{NamesWrong, open-number, opened, pair-fits, wrong-pair};
 use crate::entry::Entry;
 use crate::file::numbers::u32_at;
 
@@ -48,13 +48,23 @@ fn wrong_pair(bytes: &[u8], n: usize) -> Option<usize>
     ensures same { λ r. ⌜ BySome r (file-held (now (bytes .entry)) n ≡ now (bytes .entry)) (λ _. Unit {0}) ⌝ }
 {
     for i in 0..n {
-        let offset = u32_at(bytes, 4 + 8 * i) as usize;
-        let size = u32_at(bytes, 8 + 8 * i);
-        if offset != 4 + 8 * n + 36 * i || size != 36 {
+        if !pair_fits(bytes, n, i) {
             return Some(i);
         }
     }
     None
+}
+
+// Whether pair i says where the record of replica i lies, and how long that is.
+fn pair_fits(bytes: &[u8], n: usize, i: usize) -> bool
+    requires count { ⌜ n ≡ count-in (now bytes) ⌝ }
+    requires size { ⌜ length (now bytes) ≡ file-length n ⌝ }
+    requires inside { ⌜ i < n ⌝ }
+    ensures { λ r. ⌜ r ≡ pair-fits (now (bytes .entry)) i ⌝ }
+{
+    let offset = u32_at(bytes, 4 + 8 * i) as usize;
+    let size = u32_at(bytes, 8 + 8 * i);
+    offset == 4 + 8 * n + 36 * i && size == 36
 }
 
 // How many replicas the file has. It judges no record: any 36 bytes are one.

@@ -1,40 +1,31 @@
 use mathlib.Core.Path.{_≡_, sym, ap, _∙_}
-use mathlib.Core.Logic.{inl, inr}
-use Prim.Native.Nat.{ℕ, _+_, _*_, _<_}
+use Prim.Native.Nat.{ℕ, _<_}
 use borrow.Author.Count.{below-more}
 use borrow.Author.Needs.{needs}
 use native.Mathlib.Omega.{arith}
-use Rattle.std.proofs.shelf.Tests.{and-left, and-right, ne-eqb}
 use Rattle.storage.proofs.FileLayout.{same-file}
-use Rattle.storage.proofs.PairSearch.{passes, stops}
-use Rattle.storage.specs.Files.{RightPair, count-in, place}
+use Rattle.storage.proofs.PairSearch.{fits-from, passes, right-from, stops}
+use Rattle.storage.specs.Files.{RightPair}
 use Rattle.storage.specs.Opened.{wrong-from}
 use Rattle.storage.proofs.file.opening.wrong_pair.Needs as need
 
-pub returns-then-offset-n : need.returns-then-offset-n
-returns-then-offset-n c =
+pub returns-then-not-pair-fits : need.returns-then-not-pair-fits
+returns-then-not-pair-fits c =
     let bs = c .args .bytes .now in
-    let at : place (count-in bs) (c .loop-i .i) ≡ 4 + 8 * c .args .n + 36 * c .loop-i .i = omega arith in
+    let i = c .loop-i .i in
+    let wrong = sym (c .if-not-pair-fits .ensures tt) in
     record {
-      first =
-          sym
-          (ap (wrong-from bs 0) (sym (c .pre .count))
-          ∙ c .loop-i .inv .0
-          ∙ stops bs (c .args .n) (c .loop-i .i) (omega arith)
-          (elim (c .then-offset-n .either) [
-            | inl ne ↦ and-left _ _ (ne-eqb _ _ (λ e. ne (c .u32-at-offset .ensures ∙ e ∙ at)))
-            | inr r ↦ and-right _ _ (ne-eqb _ _ (λ e. r .1 (c .u32-at-size .ensures ∙ e)))
-          ]));
-      right = search needs;
+      first = sym (ap (wrong-from bs 0) (sym (c .pre .count)) ∙ c .loop-i .inv .0 ∙ stops bs (c .args .n) i (omega arith) wrong);
+      right = (omega arith, λ p. let z = fits-from bs i p in grind (arith, z, wrong));
       same = tt;
     }
 
 pub loop-i-again : need.loop-i-again
 loop-i-again c =
     let bs = c .args .bytes .now in
-    let at : 4 + 8 * c .args .n + 36 * c .loop-i .i ≡ place (count-in bs) (c .loop-i .i) = omega arith in
-    let here : RightPair bs (c .loop-i .i) = (sym (c .u32-at-offset .ensures) ∙ c .if-offset-n .left ∙ at, sym (c .u32-at-size .ensures) ∙ c .if-size-ne36 .left) in
-    (c .loop-i .inv .0 ∙ passes bs (c .args .n) (c .loop-i .i) (omega arith) here, below-more (RightPair bs) (c .loop-i .i) (c .loop-i .inv .1) here)
+    let i = c .loop-i .i in
+    let here = right-from bs i (sym (c .if-not-pair-fits .ensures tt)) in
+    (c .loop-i .inv .0 ∙ passes bs (c .args .n) i (omega arith) here, below-more (RightPair bs) i (c .loop-i .inv .1) here)
 
 pub returns : need.returns
 returns c =
