@@ -1,4 +1,6 @@
 // All replicas of a register, their storage and the messages in transit, driven event by event.
+#![tactic(auto)]
+
 pub mod answer;
 pub mod cluster;
 pub mod event;

@@ -1,4 +1,6 @@
 // Tests of the crate cluster, through its public calls.
+#![tactic(auto)]
+
 #[cfg(test)]
 mod faults;
 #[cfg(test)]

@@ -1,5 +1,7 @@
 // Rehearses runs of a register: events from standard input, one a line, and what comes of each to
 // standard output.
+#![tactic(auto)]
+
 mod command;
 mod number;
 mod opening;

@@ -1,4 +1,6 @@
 // One replica of the register: its record, the messages it sends and takes, and its step.
+#![tactic(auto)]
+
 pub mod fault;
 pub mod message;
 pub mod operation;

@@ -1,4 +1,6 @@
 // Tests of the crate replica, through its public calls. What is expected comes from the rules, not from the program.
+#![tactic(auto)]
+
 #[cfg(test)]
 mod operations;
 #[cfg(test)]

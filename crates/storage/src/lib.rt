@@ -1,5 +1,7 @@
 // The lowest layer of the register: entries, timestamps, pages, stable storage, the
 // transfer file and quorums.
+#![tactic(auto)]
+
 pub mod entry;
 pub mod fault;
 pub mod file;

@@ -45,8 +45,8 @@ pub trait Quorum {
 
 // The lowest replica that both sets hold: there is one if both are quorums.
 pub fn shared_replica<Q: Quorum>(quorum: &Q, one: &ReplicaSet, other: &ReplicaSet) -> Option<usize>
-    ensures lowest { result ≡ lowest_shared (member one.now) (member other.now) (size quorum.now) }
-    ensures met { enough quorum.now (member one.now) ≡ true → enough quorum.now (member other.now) ≡ true → is_some result ≡ true }
+    ensures lowest { result ≡ lowest_shared (member one.now) (member other.now) (Q.size quorum.now) }
+    ensures met { Q.enough quorum.now (member one.now) ≡ true → Q.enough quorum.now (member other.now) ≡ true → is_some result ≡ true }
 {
     for replica in 0..quorum.replicas() {
         if one.contains(replica) && other.contains(replica) {

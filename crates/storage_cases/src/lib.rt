@@ -1,4 +1,6 @@
 // Tests of the crate storage, through its public calls.
+#![tactic(auto)]
+
 #[cfg(test)]
 mod entries;
 #[cfg(test)]

@@ -1,4 +1,6 @@
 // Makes, checks and shows lot transfer files; with no argument it follows one lot from start to end.
+#![tactic(auto)]
+
 mod command;
 mod files;
 mod table;

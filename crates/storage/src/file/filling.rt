@@ -61,10 +61,10 @@ fn put_blank(bytes: &mut [u8], n: usize, stores: u32)
 
 // The records of a storage.
 fn put_stored<S: Storage>(bytes: &mut [u8], storage: &S)
-    requires few { replicas storage.now ≤ 15 }
-    requires room { file_length (replicas storage.now) ≤ length bytes.old }
-    ensures after { bytes.new ≡ overwritten bytes.old (4 + 8 * replicas storage.now) (records_bytes (records_with (page storage.now) (left storage.now)) (replicas storage.now)) }
-    ensures fits { (i : ℕ) → i < replicas storage.now → Fit (records_with (page storage.now) (left storage.now) i) }
+    requires few { S.replicas storage.now ≤ 15 }
+    requires room { file_length (S.replicas storage.now) ≤ length bytes.old }
+    ensures after { bytes.new ≡ overwritten bytes.old (4 + 8 * S.replicas storage.now) (records_bytes (records_with (S.page storage.now) (S.left storage.now)) (S.replicas storage.now)) }
+    ensures fits { (i : ℕ) → i < S.replicas storage.now → Fit (records_with (S.page storage.now) (S.left storage.now) i) }
 {
     let n = storage.replicas();
     for i in 0..n {
@@ -88,11 +88,11 @@ pub(crate) fn fill_blank(bytes: &mut [u8], n: usize, kind: u8, stores: u32)
 
 // The file of a storage, over all the bytes.
 pub(crate) fn fill_stored<S: Storage>(bytes: &mut [u8], kind: u8, storage: &S)
-    requires some { 1 ≤ replicas storage.now }
-    requires few { replicas storage.now ≤ 15 }
-    requires size { length bytes.old ≡ file_length (replicas storage.now) }
-    ensures after { bytes.new ≡ file_of (replicas storage.now) kind (records_with (page storage.now) (left storage.now)) }
-    ensures kept { Keeps (replicas storage.now) kind (records_with (page storage.now) (left storage.now)) bytes.new }
+    requires some { 1 ≤ S.replicas storage.now }
+    requires few { S.replicas storage.now ≤ 15 }
+    requires size { length bytes.old ≡ file_length (S.replicas storage.now) }
+    ensures after { bytes.new ≡ file_of (S.replicas storage.now) kind (records_with (S.page storage.now) (S.left storage.now)) }
+    ensures kept { Keeps (S.replicas storage.now) kind (records_with (S.page storage.now) (S.left storage.now)) bytes.new }
 {
     put_front(bytes, storage.replicas(), kind);
     put_stored(bytes, storage);

@@ -11,8 +11,8 @@ returns c =
     let n = c.args.n in
     let kind = c.args.kind in
     let cell : ℕ → Cell = λ _. blank_cell c.args.stores in
-    let all = whole_file n kind cell c.args.bytes.now c.put-front.new.bytes c.put-blank.new.bytes c.requires.size c.put-front.ensures c.put-blank.ensures.after in
+    let all = whole_file n kind cell c.args.bytes.now c.put_front.new.bytes c.put_blank.new.bytes c.requires.size c.put_front.ensures c.put_blank.ensures.after in
     record {
       after = all;
-      kept = subst (Keeps n kind cell) (sym all) (keeps n kind cell c.requires.some c.requires.few c.put-blank.ensures.fits);
+      kept = subst (Keeps n kind cell) (sym all) (keeps n kind cell c.requires.some c.requires.few c.put_blank.ensures.fits);
     }

@@ -13,9 +13,9 @@ returns g c =
     let kind = c.args.kind in
     let bs = c.args.bytes.now in
     let cell = records_with (g.S.Storage.page s) (g.S.Storage.left s) in
-    let front = subst (λ (m : ℕ). c.put-front.new.bytes ≡ overwritten bs 0 (head_bytes m kind ++ pairs_bytes m)) c.replicas.ensures c.put-front.ensures in
-    let all = whole_file n kind cell bs c.put-front.new.bytes c.put-stored.new.bytes c.requires.size front c.put-stored.ensures.after in
+    let front = subst (λ (m : ℕ). c.put_front.new.bytes ≡ overwritten bs 0 (head_bytes m kind ++ pairs_bytes m)) c.replicas.ensures c.put_front.ensures in
+    let all = whole_file n kind cell bs c.put_front.new.bytes c.put_stored.new.bytes c.requires.size front c.put_stored.ensures.after in
     record {
       after = all;
-      kept = subst (Keeps n kind cell) (sym all) (keeps n kind cell c.requires.some c.requires.few c.put-stored.ensures.fits);
+      kept = subst (Keeps n kind cell) (sym all) (keeps n kind cell c.requires.some c.requires.few c.put_stored.ensures.fits);
     }

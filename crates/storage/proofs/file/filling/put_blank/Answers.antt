@@ -13,6 +13,6 @@ loop-i-init c = (sym (write_none c.args.bytes.now (4 + 8 * c.args.n)), λ k h. a
 pub loop-i-preserved : goal.loop-i-preserved
 loop-i-preserved c =
     let cell = blank_cell c.args.stores in (
-      piece_more (λ _. record_bytes cell) 36 (λ _. length_record cell) c.args.bytes.now (4 + 8 * c.args.n) c.loop-i.i (place c.args.n c.loop-i.i) c.loop-i.bytes c.put-record.new.bytes c.loop-i.invariant.0 c.put-record.ensures.after refl (omega arith),
-      λ k h. c.put-record.ensures.fits,
+      piece_more (λ _. record_bytes cell) 36 (λ _. length_record cell) c.args.bytes.now (4 + 8 * c.args.n) c.loop-i.i (place c.args.n c.loop-i.i) c.loop-i.bytes c.put_record.new.bytes c.loop-i.invariant.0 c.put_record.ensures.after refl (omega arith),
+      λ k h. c.put_record.ensures.fits,
     )

@@ -7,4 +7,4 @@ use Rattle.storage.proofs.file.filling.put_pair.Goals as goal
 pub returns : goal.returns
 returns c =
     let i = c.args.i in
-    write_more c.args.bytes.now (4 + 8 * i) (bytes_of 4 (place c.args.n i)) (8 + 8 * i) (bytes_of 4 36) c.put-u32.new.bytes c.put-u32-2.new.bytes c.put-u32.ensures.after c.put-u32-2.ensures.after (omega arith) (omega arith)
+    write_more c.args.bytes.now (4 + 8 * i) (bytes_of 4 (place c.args.n i)) (8 + 8 * i) (bytes_of 4 36) c.put_u32.new.bytes c.put_u32-2.new.bytes c.put_u32.ensures.after c.put_u32-2.ensures.after (omega arith) (omega arith)

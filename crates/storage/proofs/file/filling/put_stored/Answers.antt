@@ -25,7 +25,7 @@ loop-i-preserved g c =
     let page : c.unwrap-page.result ≡ g.S.Storage.page s i = cc in
     let left : c.unwrap-left.result ≡ g.S.Storage.left s i = cc in
     let here : ◌≡◌ {A = Cell} (record { page = c.unwrap-page.result; left = c.unwrap-left.result }) (cell i) = λ j. record { page = page j; left = left j } in
-    let next = c.put-record.ensures.after ∙ ap (λ (x : Cell). overwritten c.loop-i.bytes (place n i) (record_bytes x)) here in (
-      piece_more (λ k. record_bytes (cell k)) 36 (λ k. length_record (cell k)) c.args.bytes.now (4 + 8 * n) i (place n i) c.loop-i.bytes c.put-record.new.bytes c.loop-i.invariant.0 next refl (omega arith),
-      below_more (λ k. Fit (cell k)) i c.loop-i.invariant.1 (subst Fit here c.put-record.ensures.fits),
+    let next = c.put_record.ensures.after ∙ ap (λ (x : Cell). overwritten c.loop-i.bytes (place n i) (record_bytes x)) here in (
+      piece_more (λ k. record_bytes (cell k)) 36 (λ k. length_record (cell k)) c.args.bytes.now (4 + 8 * n) i (place n i) c.loop-i.bytes c.put_record.new.bytes c.loop-i.invariant.0 next refl (omega arith),
+      below_more (λ k. Fit (cell k)) i c.loop-i.invariant.1 (subst Fit here c.put_record.ensures.fits),
     )

@@ -6,6 +6,6 @@ use Rattle.storage.proofs.file.numbers.put_u32.Goals as goal
 
 pub returns : goal.returns
 returns c = record {
-  after = putMid_is c.args.k _ c.args.bytes.now c.copy-from-slice.new.self (bytes_of 4 c.args.n) (c.copy-from-slice.ensures.after ∙ c.to-le-bytes.ensures ∙ sym (four_bytes c.args.n)) (omega arith);
+  after = putMid_is c.args.k _ c.args.bytes.now c.copy_from_slice.new.self (bytes_of 4 c.args.n) (c.copy_from_slice.ensures.after ∙ c.to_le_bytes.ensures ∙ sym (four_bytes c.args.n)) (omega arith);
   fits = search rules;
 }

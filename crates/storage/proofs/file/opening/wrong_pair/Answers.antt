@@ -20,7 +20,7 @@ pub loop-i-preserved : goal.loop-i-preserved
 loop-i-preserved c =
     let bs = c.args.bytes.now in
     let i = c.loop-i.i in
-    let here = right_from bs i (sym c.if-not-pair-fits.ensures) in
+    let here = right_from bs i (sym c.if-not-pair_fits.ensures) in
     (c.loop-i.invariant.0 ∙ passes bs c.args.n i (omega arith) here, below_more (RightPair bs) i c.loop-i.invariant.1 here)
 
 pub returns : goal.returns
@@ -29,5 +29,5 @@ returns c =
     record {
       first = search rules;
       right = right;
-      same = same_file c.args.bytes.now c.args.n (λ i. (c.type-inv.bytes i).fits) c.requires.count c.requires.zeros.0 c.requires.zeros.1 c.requires.size right;
+      same = same_file c.args.bytes.now c.args.n (λ i. (c.ok.bytes i).fits) c.requires.count c.requires.zeros.0 c.requires.zeros.1 c.requires.size right;
     }

@@ -8,9 +8,9 @@ unfolding record_of
 returns c =
     let bs = c.args.bytes.now in
     let k = c.args.k in
-    let sequence = c.u32-at.ensures ∙ number_in_part bs k 36 8 4 (k + 8) (omega arith) (omega arith) in
-    let replica = c.u32-at-2.ensures ∙ number_in_part bs k 36 12 4 (k + 12) (omega arith) (omega arith) in
-    let incarnation = c.u32-at-3.ensures ∙ number_in_part bs k 36 4 4 (k + 4) (omega arith) (omega arith) in
+    let sequence = c.u32_at.ensures ∙ number_in_part bs k 36 8 4 (k + 8) (omega arith) (omega arith) in
+    let replica = c.u32_at-2.ensures ∙ number_in_part bs k 36 12 4 (k + 12) (omega arith) (omega arith) in
+    let incarnation = c.u32_at-3.ensures ∙ number_in_part bs k 36 4 4 (k + 4) (omega arith) (omega arith) in
     let code = c.u64-at.ensures ∙ number_in_part bs k 36 16 8 (k + 16) (omega arith) (omega arith) in
     let next_sequence = c.u32-at-4.ensures ∙ number_in_part bs k 36 24 4 (k + 24) (omega arith) (omega arith) in
     let next_code = c.u64-at-2.ensures ∙ number_in_part bs k 36 28 8 (k + 28) (omega arith) (omega arith) in

@@ -6,7 +6,7 @@ use Rattle.storage.proofs.stable.quota.allowances_of.Goals as goal
 pub loop-i-preserved : goal.loop-i-preserved
 loop-i-preserved c = (
   simp length-set (omega arith),
-  rw c.number-at.ensures.value (fill_by_more (λ i. get_or c.args.given.now i 0) c.loop-i.allowances c.loop-i.i 0 (omega arith) c.loop-i.invariant.1),
+  rw c.number_at.ensures.value (fill_by_more (λ i. get_or c.args.given.now i 0) c.loop-i.allowances c.loop-i.i 0 (omega arith) c.loop-i.invariant.1),
 )
 
 pub returns : goal.returns

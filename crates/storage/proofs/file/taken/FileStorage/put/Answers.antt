@@ -26,9 +26,9 @@ returns c =
     let cell = c.args.cell in
     let some : 0 < f.count = omega arith in
     let room : file_length f.count ≤ length bs = omega (arith, f.room some, f.bytes.ok.0) in
-    let fit = c.put-record.ensures.fits in
-    let e = given_back f.bytes.len (place f.count i) bs c.deref-mut.result.now c.put-record.new.bytes (record_bytes cell) (sym f.bytes.ok.0) c.deref-mut.ensures.value c.put-record.ensures.after (fits bs f.count i cell fit c.requires room) in
-    let after : (j : ℕ) → record_at (take f.bytes.len (c.put-record.new.bytes ++ drop (length c.put-record.new.bytes) bs)) (place f.count j) ≡ cond (eqb j i) cell (record_at bs (place f.count j)) =
+    let fit = c.put_record.ensures.fits in
+    let e = given_back f.bytes.len (place f.count i) bs c.deref_mut.result.now c.put_record.new.bytes (record_bytes cell) (sym f.bytes.ok.0) c.deref_mut.ensures.value c.put_record.ensures.after (fits bs f.count i cell fit c.requires room) in
+    let after : (j : ℕ) → record_at (take f.bytes.len (c.put_record.new.bytes ++ drop (length c.put_record.new.bytes) bs)) (place f.count j) ≡ cond (eqb j i) cell (record_at bs (place f.count j)) =
     λ j. ap (λ (l : List ℕ). record_at l (place f.count j)) e ∙ records_after bs f.count i cell fit c.requires room j in
     record {
       pages = fun_ext (λ j. ap (λ (x : Cell). x.page) (after j) ∙ cond_ap (λ (x : Cell). x.page) (eqb j i) cell (record_at bs (place f.count j)));
