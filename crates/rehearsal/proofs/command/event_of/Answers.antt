@@ -10,7 +10,7 @@ pub returns-in-err-number : goal.returns-in-err-number
 returns-in-err-number c =
     let line = c.args.line.now in
     let read = sym c.number.ensures ∙ c.in-err-number.was in
-    c.from-residual.ensures
+    c.from_residual.ensures
     ∙ sym (other_at line (omega (arith, ltb-false)) (omega arith) (omega arith) (λ e. omega arith) ∙ ap (λ (o : Option ℕ). with_number o (λ n. event_by (get_or line 0 0) n)) read)
 
 pub returns-in-ok-number : goal.returns-in-ok-number

@@ -5,7 +5,7 @@ use Rattle.rehearsal.proofs.number.number.Goals as goal
 pub returns-in-err-value : goal.returns-in-err-value
 returns-in-err-value c =
     let none = digit_at c.args.digits.now c.loop-digit.digit-index c.loop-digit.value (omega arith) (sym c.append.ensures ∙ c.in-err-value.was) in
-    c.from-residual.ensures ∙ sym (c.loop-digit.invariant.0 ∙ none)
+    c.from_residual.ensures ∙ sym (c.loop-digit.invariant.0 ∙ none)
 
 pub loop-digit-preserved : goal.loop-digit-preserved
 loop-digit-preserved c =

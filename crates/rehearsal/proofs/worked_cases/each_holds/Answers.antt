@@ -5,4 +5,4 @@ use Rattle.rehearsal.proofs.worked_cases.each_holds.Goals as goal
 
 pub returns : goal.returns
 unfolding dec_le digits
-returns c = (refl, c.worked-cases.ensures.hold)
+returns c = (refl, c.worked_cases.ensures.hold)

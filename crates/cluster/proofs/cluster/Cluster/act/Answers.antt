@@ -4,7 +4,7 @@ use Rattle.cluster.proofs.cluster.Cluster.act.Goals as goal
 
 pub returns : goal.returns
 returns g c = record {
-  does = c.act-at.ensures;
-  balance = balanced 0 _ _ _ _ _ c.act-at.ensures.after;
-  fit = stays_fit 0 _ _ _ _ _ _ c.act-at.ensures.after c.act-at.ensures.setup;
+  does = c.act_at.ensures;
+  balance = balanced 0 _ _ _ _ _ c.act_at.ensures.after;
+  fit = stays_fit 0 _ _ _ _ _ _ c.act_at.ensures.after c.act_at.ensures.setup;
 }

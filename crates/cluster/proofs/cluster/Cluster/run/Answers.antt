@@ -4,7 +4,7 @@ use Rattle.cluster.proofs.StaysFit.{runs_fit}
 use Rattle.cluster.proofs.cluster.Cluster.run.Goals as goal
 
 pub loop-k-preserved : goal.loop-k-preserved
-loop-k-preserved g c = runs_on _ _ _ _ _ _ _ _ _ _ _ _ _ c.loop-k.invariant (omega arith) (omega arith) refl c.act-at.ensures.after c.act-at.ensures.setup
+loop-k-preserved g c = runs_on _ _ _ _ _ _ _ _ _ _ _ _ _ c.loop-k.invariant (omega arith) (omega arith) refl c.act_at.ensures.after c.act_at.ensures.setup
 
 pub returns : goal.returns
 returns g c =

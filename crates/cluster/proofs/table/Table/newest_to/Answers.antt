@@ -11,7 +11,7 @@ loop-place-preserved c =
     let i = c.args.i in
     c.loop-place.invariant
     ∙ ap (newest_of i c.loop-place.newest) (drop_more ms p no_message (omega arith) ∙ ap (λ (m : Message). m ∷ drop (p + 1) ms) (sym c.message.ensures))
-    ∙ ap (λ (found : Option Message). newest_of i found (drop (p + 1) ms)) (sym c.newer-to-newest.ensures)
+    ∙ ap (λ (found : Option Message). newest_of i found (drop (p + 1) ms)) (sym c.newer_to-newest.ensures)
 
 pub returns : goal.returns
 returns c =

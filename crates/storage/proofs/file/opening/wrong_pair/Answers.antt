@@ -5,11 +5,11 @@ use Rattle.storage.specs.Files.{RightPair}
 use Rattle.storage.specs.Opened.{wrong_from}
 use Rattle.storage.proofs.file.opening.wrong_pair.Goals as goal
 
-pub returns-then-not-pair-fits : goal.returns-then-not-pair-fits
-returns-then-not-pair-fits c =
+pub returns-then-not-pair_fits : goal.returns-then-not-pair_fits
+returns-then-not-pair_fits c =
     let bs = c.args.bytes.now in
     let i = c.loop-i.i in
-    let wrong = sym c.if-not-pair-fits.ensures in
+    let wrong = sym c.if-not-pair_fits.ensures in
     record {
       first = sym (ap (wrong_from bs 0) (sym c.requires.count) ∙ c.loop-i.invariant.0 ∙ stops bs c.args.n i (omega arith) wrong);
       right = (omega arith, λ p. let z = fits_from bs i p in grind (arith, z, wrong));
@@ -29,5 +29,5 @@ returns c =
     record {
       first = search rules;
       right = right;
-      same = same_file c.args.bytes.now c.args.n (λ i. (c.ok.bytes i).fits) c.requires.count c.requires.zeros.0 c.requires.zeros.1 c.requires.size right;
+      same = same_file c.args.bytes.now c.args.n (λ i. omega (arith, c.type_inv.bytes i)) c.requires.count c.requires.zeros.0 c.requires.zeros.1 c.requires.size right;
     }

@@ -11,10 +11,10 @@ returns c =
     let sequence = c.u32_at.ensures ∙ number_in_part bs k 36 8 4 (k + 8) (omega arith) (omega arith) in
     let replica = c.u32_at-2.ensures ∙ number_in_part bs k 36 12 4 (k + 12) (omega arith) (omega arith) in
     let incarnation = c.u32_at-3.ensures ∙ number_in_part bs k 36 4 4 (k + 4) (omega arith) (omega arith) in
-    let code = c.u64-at.ensures ∙ number_in_part bs k 36 16 8 (k + 16) (omega arith) (omega arith) in
-    let next_sequence = c.u32-at-4.ensures ∙ number_in_part bs k 36 24 4 (k + 24) (omega arith) (omega arith) in
-    let next_code = c.u64-at-2.ensures ∙ number_in_part bs k 36 28 8 (k + 28) (omega arith) (omega arith) in
-    let left = c.u32-at-5.ensures ∙ number_in_part bs k 36 0 4 k (omega arith) (omega arith) in
+    let code = c.u64_at.ensures ∙ number_in_part bs k 36 16 8 (k + 16) (omega arith) (omega arith) in
+    let next_sequence = c.u32_at-4.ensures ∙ number_in_part bs k 36 24 4 (k + 24) (omega arith) (omega arith) in
+    let next_code = c.u64_at-2.ensures ∙ number_in_part bs k 36 28 8 (k + 28) (omega arith) (omega arith) in
+    let left = c.u32_at-5.ensures ∙ number_in_part bs k 36 0 4 k (omega arith) (omega arith) in
     λ j.
     record {
       page = record {

@@ -6,17 +6,21 @@ use Rattle.storage.specs.Records.{record_at, record_bytes}
 use Rattle.storage.specs.declared.stable.memory.Cell.{Cell}
 use Rattle.storage.proofs.file.taken.FileStorage.put.Goals as goal
 
-pub invariant-of-self : goal.invariant-of-self
-invariant-of-self c =
+pub invariant_of-self : goal.invariant_of-self
+invariant_of-self c =
     let f = c.args.self.now in
     let bs = f.bytes.items in
     let i = c.args.i in
     let cell = c.args.cell in
     let some : 0 < f.count = omega arith in
     let room : file_length f.count ≤ length bs = omega (arith, f.room some, f.bytes.ok.0) in
-    let fit = c.put-record.ensures.fits in
-    let e = given_back f.bytes.len (place f.count i) bs c.deref-mut.result.now c.put-record.new.bytes (record_bytes cell) (sym f.bytes.ok.0) c.deref-mut.ensures.value c.put-record.ensures.after (fits bs f.count i cell fit c.requires room) in
-    (f.few, (f.room, ((λ _. subst (λ (l : List ℕ). file_held l f.count ≡ l) (sym e) (held_after bs f.count i cell fit c.requires room (f.file some))), tt)))
+    let fit = c.put_record.ensures.fits in
+    let e = given_back f.bytes.len (place f.count i) bs c.deref_mut.result.now c.put_record.new.bytes (record_bytes cell) (sym f.bytes.ok.0) c.deref_mut.ensures.value c.put_record.ensures.after (fits bs f.count i cell fit c.requires room) in
+    record {
+      few = f.few;
+      room = f.room;
+      file = λ _. subst (λ (l : List ℕ). file_held l f.count ≡ l) (sym e) (held_after bs f.count i cell fit c.requires room (f.file some));
+    }
 
 pub returns : goal.returns
 returns c =

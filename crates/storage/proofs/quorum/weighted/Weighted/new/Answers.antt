@@ -20,12 +20,12 @@ returns-then-total-eq0 c =
     let whole = copied ws _ _ _ c.loop-replica.invariant.0 c.loop-replica.invariant.1 (omega arith) in
     sym (weightless_made ws (omega arith) (omega arith) (sym whole.1 ∙ c.if-total-eq0.true))
 
-pub invariant-of-result : goal.invariant-of-result
-invariant-of-result c =
+pub invariant_of-result : goal.invariant_of-result
+invariant_of-result c =
     let ws = c.args.weights.now in
     let whole = copied ws _ _ _ c.loop-replica.invariant.0 c.loop-replica.invariant.1 (omega arith) in
     let same = ap (λ xs. weigh (weight_at xs) all (length ws)) whole.0 in
-    (omega arith, (omega arith, (omega arith, tt)))
+    record { some = omega arith; few = omega arith; weighs = omega arith }
 
 pub returns : goal.returns
 returns c =
