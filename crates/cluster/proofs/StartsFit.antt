@@ -10,11 +10,11 @@ use Rattle.replica.specs.Records.{down}
 use Rattle.replica.specs.declared.message.Message.{Message}
 use Rattle.replica.specs.declared.record.Replica.{Replica}
 use Rattle.std.proofs.lemmas.Bool.{and_from, and_parts}
-use Rattle.std.specs.List.{AllByRecursion as All}
+use Rattle.std.specs.List.{AllByRecursion}
 use Rattle.storage.specs.Memories.{count_fits}
 use Rattle.storage.specs.declared.page.Page.{Page}
 
-all_same : {X : Type 0} (P : X → Type 0) (n : ℕ) (x : X) → P x → All P (replicate n x)
+all_same : {X : Type 0} (P : X → Type 0) (n : ℕ) (x : X) → P x → AllByRecursion P (replicate n x)
 all_same P zero x h = tt
 all_same P (suc n) x h = (h, all_same P n x h)
 

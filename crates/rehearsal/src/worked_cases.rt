@@ -1,12 +1,12 @@
 // The worked cases: examples in numbers, proved of the definitions that the contracts cite.
 ghost use Rattle.std.specs.Prelude.{◌≡◌, length};
 ghost use Rattle.rehearsal.specs.WorkedCases.{Holds, cases};
-ghost use Rattle.std.specs.List.{AllByRecursion as All};
+ghost use Rattle.std.specs.List.{AllByRecursion};
 
 // How many worked cases there are, those of entries and quorums included; each of them holds.
 pub fn worked_cases() -> usize
     ensures count { result ≡ length cases }
-    ensures hold { All Holds cases }
+    ensures hold { AllByRecursion Holds cases }
 {
     each_holds();
     15
@@ -14,7 +14,7 @@ pub fn worked_cases() -> usize
 
 // Each worked case is computed, or was proved by the crate below.
 fn each_holds()
-    ensures { All Holds cases }
+    ensures { AllByRecursion Holds cases }
 {
     let _ = storage::worked_cases::worked_cases();
 }

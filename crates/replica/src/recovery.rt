@@ -24,7 +24,7 @@ impl Replica {
         storage: &mut S,
         own: u32,
     ) -> Result<Reaction, ReplicaRefusal>
-        ensures { Performs replicas page left layer own (recovered (place replicas left layer storage.old own (page storage.old own)) self.old) storage.old storage.new self.new result }
+        ensures { Performs S.replicas S.page S.left S.layer own (recovered (place S.replicas S.left S.layer storage.old own (S.page storage.old own)) self.old) storage.old storage.new self.new result }
     {
         match self.status {
             Status::Down => {}
@@ -61,7 +61,7 @@ impl Replica {
 
 // The page of replica i. The fault is made of the storage's by `?`.
 fn read_page<S: Storage>(storage: &S, i: u32) -> Result<Page, ReplicaFault>
-    ensures { result ≡ passed Unnamed (answered (replicas storage.now) i (page storage.now i)) }
+    ensures { result ≡ passed Unnamed (answered (S.replicas storage.now) i (S.page storage.now i)) }
 {
     Ok(storage.page(i as usize)?)
 }

@@ -1,5 +1,5 @@
 -- Which replicas a set holds, and which two sets share. Assumes nothing.
-use Rattle.std.specs.Prelude.{ℕ, zero, suc, Bool, true, false, cond, ◌&&◌, set, replicate, Some, None, Option, slice_index_or, slice_set}
+use Rattle.std.specs.Prelude.{ℕ, zero, suc, Bool, true, false, cond, ◌&&◌, replicate, Some, None, Option, slice_index_or, slice_set}
 use Rattle.storage.specs.declared.replica_set.ReplicaSet.{ReplicaSet}
 
 -- whether the set holds replica k

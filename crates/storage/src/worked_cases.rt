@@ -1,12 +1,12 @@
 // The worked cases: examples in numbers, proved of the definitions that the contracts cite.
 ghost use Rattle.std.specs.Prelude.{◌≡◌, length};
-ghost use Rattle.std.specs.List.{AllByRecursion as All};
+ghost use Rattle.std.specs.List.{AllByRecursion};
 ghost use Rattle.storage.specs.WorkedCases.{Holds, cases};
 
 // How many worked cases there are; each of them holds.
 pub fn worked_cases() -> usize
     ensures count { result ≡ length cases }
-    ensures hold { All Holds cases }
+    ensures hold { AllByRecursion Holds cases }
 {
     each_holds();
     14
@@ -14,5 +14,5 @@ pub fn worked_cases() -> usize
 
 // Each worked case is computed.
 fn each_holds()
-    ensures { All Holds cases }
+    ensures { AllByRecursion Holds cases }
 {}

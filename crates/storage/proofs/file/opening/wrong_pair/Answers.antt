@@ -1,4 +1,4 @@
-use Rattle.std.proofs.Common.{◌≡◌, ℕ, ◌<◌, sym, ap, ◌∙◌, arith, rules, below_more}
+use Rattle.std.proofs.Common.{ℕ, ◌<◌, sym, ap, ◌∙◌, arith, rules, below_more}
 use Rattle.storage.proofs.FileLayout.{same_file}
 use Rattle.storage.proofs.PairSearch.{fits_from, passes, right_from, stops}
 use Rattle.storage.specs.Files.{RightPair}
