@@ -1,5 +1,5 @@
 -- What a replica with a fit page and record does with a fit message is fit. Assumes nothing.
-use Rattle.std.proofs.Common.{◌≡◌, ℕ, ◌+◌, ◌<◌, ◌≤◌, Bool, true, false, cond, leb, Some, None, Ok, Err, Option, Result, arith, lt-ltb, le-leb, leb-false, leb-true}
+use Rattle.std.proofs.Common.{◌≡◌, ℕ, ◌+◌, ◌<◌, ◌≤◌, Bool, true, false, cond, ◌||◌, eqb, leb, ltb, Some, None, Ok, Err, Option, Result, arith, lt-ltb, le-leb, leb-false, leb-true}
 use borrow.Author.Tests.{eqb-false}
 use Rattle.cluster.proofs.ReplicaCases as replica
 use Rattle.cluster.proofs.ReplicaCases.{Receipt, Recovery}
@@ -16,6 +16,7 @@ use Rattle.replica.specs.declared.record.Replica.{Replica}
 use Rattle.std.proofs.lemmas.Bool.{and_from, and_parts}
 use Rattle.storage.specs.Timestamps.{blank_timestamp, later}
 use Rattle.storage.specs.declared.page.Page.{Page}
+use Rattle.storage.specs.declared.timestamp.Timestamp.{Timestamp}
 
 abbrev pub FitStore : ℕ → (ℕ → Bool) → Option Page → Type 0
 FitStore n valid None = Unit {0}
@@ -51,8 +52,17 @@ module _ (n : ℕ) (valid : ℕ → Bool) where
   page_parts : (p : Page) → page_fits n valid p ≡ true → (leb p.incarnation 9999 ≡ true) × (written_fits n valid p.written p.written_code ≡ true) × (code_fits valid p.intended_sequence p.intended_code ≡ true)
   page_parts p h =
       let rest = and_parts (leb p.incarnation 9999) _ h in
-      let last = and_parts (written_fits n valid p.written p.written_code) _ rest.1 in
-      (rest.0, last.0, last.1)
+      let place = and_parts (ltb p.written.replica n) _ rest.1 in
+      let coded = and_parts (code_fits valid p.written.sequence p.written_code) _ place.1 in
+      let last = and_parts (ltb 0 p.written.sequence || eqb p.written.replica 0) _ coded.1 in
+      (rest.0, and_from _ _ place.0 (and_from _ _ coded.0 last.0), last.1)
+
+  -- and a page that holds such parts is fit
+  page_from : (i : ℕ) (t : Timestamp) (c q d : ℕ) → leb i 9999 ≡ true → written_fits n valid t c ≡ true → code_fits valid q d ≡ true → page_fits n valid (record { incarnation = i; written = t; written_code = c; intended_sequence = q; intended_code = d }) ≡ true
+  page_from i t c q d l w h =
+      let place = and_parts (ltb t.replica n) _ w in
+      let coded = and_parts (code_fits valid t.sequence c) _ place.1 in
+      and_from _ _ l (and_from _ _ place.0 (and_from _ _ coded.0 (and_from _ _ coded.1 h)))
 
   code_parts : (q c : ℕ) → code_fits valid q c ≡ true → (q ≤ 999999) × (valid c ≡ true)
   code_parts q c h =
@@ -87,7 +97,7 @@ module _ (n : ℕ) (valid : ℕ → Bool) where
       receipt_fits (replica.acknowledges e) = record { holds = holds; stores = tt; sends = blank }
       receipt_fits (replica.keeps e k) = record {
         holds = holds;
-        stores = and_from _ _ (page_parts a.page page).0 (and_from _ _ carries (page_parts a.page page).2);
+        stores = page_from a.page.incarnation m.timestamp m.code a.page.intended_sequence a.page.intended_code (page_parts a.page page).0 carries (page_parts a.page page).2;
         sends = blank;
       }
       receipt_fits (replica.keeps_not f e k) = record { holds = holds; stores = tt; sends = tt }
@@ -105,7 +115,7 @@ module _ (n : ℕ) (valid : ℕ → Bool) where
           let below = leb-false 999999 sequence l in
           record {
             holds = and_from _ _ (next sequence code l wanted) wanted;
-            stores = and_from _ _ (page_parts a.page page).0 (and_from _ _ (page_parts a.page page).1 (intended_fits (sequence + 1) code (omega arith) (omega arith) wanted));
+            stores = page_from a.page.incarnation a.page.written a.page.written_code (sequence + 1) code (page_parts a.page page).0 (page_parts a.page page).1 (intended_fits (sequence + 1) code (omega arith) (omega arith) wanted);
             sends = next sequence code l wanted;
           }
       receipt_fits (replica.write_fails f e q w l k) = record { holds = heard_fits r m holds carries; stores = tt; sends = tt }
@@ -125,5 +135,5 @@ module _ (n : ℕ) (valid : ℕ → Bool) where
         let sequence = a.page.intended_sequence in
         let code = a.page.intended_code in
         let intention = code_parts sequence code (page_parts a.page page).2 in
-        let own-write = own_fits a.own sequence code own (omega (arith, eqb-false sequence 0 z)) intention.0 intention.1 in
-        record { holds = and_from _ _ own-write zero; stores = raised_fits l; sends = own-write }
+        let own_write = own_fits a.own sequence code own (omega (arith, eqb-false sequence 0 z)) intention.0 intention.1 in
+        record { holds = and_from _ _ own_write zero; stores = raised_fits l; sends = own_write }

@@ -5,7 +5,6 @@ pub mod FitPages
 pub mod Reading
 pub mod ReplicaCases
 pub mod Running
-pub mod SameTable
 pub mod Sending
 pub mod StartsFit
 pub mod StaysFit

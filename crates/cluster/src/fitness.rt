@@ -14,7 +14,7 @@ pub(crate) fn check_fitness<S: Storage, Q: Quorum, E: Entry>(
     quorum: &Q,
     _kind: &E,
 ) -> Result<(), Refusal>
-    ensures { result ≡ fitness (replicas storage.now) (size quorum.now) (λ c. is_some (decoded c)) (page storage.now) }
+    ensures { result ≡ fitness (S.replicas storage.now) (Q.size quorum.now) (λ c. is_some (E.decoded c)) (S.page storage.now) }
 {
     let n = storage.replicas();
     if n < 1 || n > 15 || n != quorum.replicas() {
@@ -28,8 +28,8 @@ pub(crate) fn check_fitness<S: Storage, Q: Quorum, E: Entry>(
 
 // The lowest replica below n whose page is unfit.
 fn unfit_replica<S: Storage, E: Entry>(storage: &S, n: usize) -> Option<usize>
-    requires { n ≡ replicas storage.now }
-    ensures { result ≡ lowest_unfit n (λ c. is_some (decoded c)) (page storage.now) 0 n }
+    requires { n ≡ S.replicas storage.now }
+    ensures { result ≡ lowest_unfit n (λ c. is_some (E.decoded c)) (S.page storage.now) 0 n }
 {
     for i in 0..n {
         match storage.page(i) {
@@ -46,7 +46,7 @@ fn unfit_replica<S: Storage, E: Entry>(storage: &S, n: usize) -> Option<usize>
 
 // Whether a page of a register of n replicas holds what such a register can have stored.
 fn page_fits<E: Entry>(n: usize, page: &Page) -> bool
-    ensures { result ≡ page_fits n (λ c. is_some (decoded c)) page.now }
+    ensures { result ≡ page_fits n (λ c. is_some (E.decoded c)) page.now }
 {
     let written = page.written;
     page.incarnation <= LAST_INCARNATION
@@ -58,7 +58,7 @@ fn page_fits<E: Entry>(n: usize, page: &Page) -> bool
 
 // Whether a sequence is in its range and a code of the kind; at sequence 0 the code is 0.
 fn code_fits<E: Entry>(sequence: u32, code: u64) -> bool
-    ensures { result ≡ code_fits (λ c. is_some (decoded c)) sequence code }
+    ensures { result ≡ code_fits (λ c. is_some (E.decoded c)) sequence code }
 {
     sequence <= Timestamp::LAST_SEQUENCE && E::decode(code).is_some() && (sequence > 0 || code == 0)
 }

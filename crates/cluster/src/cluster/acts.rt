@@ -16,16 +16,16 @@ impl<S: Storage, Q: Quorum, E: Entry> Cluster<S, Q, E> {
     // One event. A refused one changes nothing. Transit grows by what was sent less what was taken out,
     // the stores left fall by the stores made, and a fit cluster stays fit.
     pub fn act(&mut self, event: &Event) -> Answer
-        ensures does { Does page left layer replicas size enough decoded (λ u s. acted 0 u s event.now) self.old self.new result }
-        ensures balance { Balanced (setup_of replicas layer size enough decoded self.old) (state_of page left self.old) (state_of page left self.new) event.now result }
-        ensures fit { Fit (setup_of replicas layer size enough decoded self.old) (state_of page left self.old) → Fit (setup_of replicas layer size enough decoded self.new) (state_of page left self.new) }
+        ensures does { Does S.page S.left S.layer S.replicas Q.size Q.enough E.decoded (λ u s. acted 0 u s event.now) self.old self.new result }
+        ensures balance { Balanced (setup_of S.replicas S.layer Q.size Q.enough E.decoded self.old) (state_of S.page S.left self.old) (state_of S.page S.left self.new) event.now result }
+        ensures fit { Fit (setup_of S.replicas S.layer Q.size Q.enough E.decoded self.old) (state_of S.page S.left self.old) → Fit (setup_of S.replicas S.layer Q.size Q.enough E.decoded self.new) (state_of S.page S.left self.new) }
     {
         self.act_at(event, 0)
     }
 
     // One event, which is at this place of a list.
     pub(crate) fn act_at(&mut self, event: &Event, at: usize) -> Answer
-        ensures { Does page left layer replicas size enough decoded (λ u s. acted at u s event.now) self.old self.new result }
+        ensures { Does S.page S.left S.layer S.replicas Q.size Q.enough E.decoded (λ u s. acted at u s event.now) self.old self.new result }
     {
         match self.try_act(event, at) {
             Ok(answer) => answer,
@@ -34,7 +34,7 @@ impl<S: Storage, Q: Quorum, E: Entry> Cluster<S, Q, E> {
     }
 
     fn try_act(&mut self, event: &Event, at: usize) -> Result<Answer, Refusal>
-        ensures { Does page left layer replicas size enough decoded (λ u s. tried at u s event.now) self.old self.new result }
+        ensures { Does S.page S.left S.layer S.replicas Q.size Q.enough E.decoded (λ u s. tried at u s event.now) self.old self.new result }
     {
         check_fitness(&self.storage, &self.quorum, &self.blank)?;
         let n = self.storage.replicas() as u32;
@@ -51,7 +51,7 @@ impl<S: Storage, Q: Quorum, E: Entry> Cluster<S, Q, E> {
 
     // Sends what a replica sends; how many found room, and how many did not.
     fn dispatch(&mut self, n: u32, sending: Sending) -> (usize, usize)
-        ensures { Does page left layer replicas size enough decoded (λ _ s. dispatched n s sending) self.old self.new result }
+        ensures { Does S.page S.left S.layer S.replicas Q.size Q.enough E.decoded (λ _ s. dispatched n s sending) self.old self.new result }
     {
         match sending {
             Sending::Nothing => (0, 0),
@@ -71,7 +71,7 @@ impl<S: Storage, Q: Quorum, E: Entry> Cluster<S, Q, E> {
 
     // The reaction of a replica, as the answer to its event.
     fn accept(&mut self, n: u32, reaction: Reaction) -> Answer
-        ensures { Does page left layer replicas size enough decoded (λ _ s. accepted n s reaction) self.old self.new result }
+        ensures { Does S.page S.left S.layer S.replicas Q.size Q.enough E.decoded (λ _ s. accepted n s reaction) self.old self.new result }
     {
         let (sent, dropped) = self.dispatch(n, reaction.sending);
         Answer::of(reaction.outcome, sent, dropped, reaction.stored)
@@ -79,7 +79,7 @@ impl<S: Storage, Q: Quorum, E: Entry> Cluster<S, Q, E> {
 
     // Sends a message to all, which is all that comes of an event.
     fn broadcast(&mut self, n: u32, message: Message) -> Answer
-        ensures { Does page left layer replicas size enough decoded (λ _ s. broadcasted n s message) self.old self.new result }
+        ensures { Does S.page S.left S.layer S.replicas Q.size Q.enough E.decoded (λ _ s. broadcasted n s message) self.old self.new result }
     {
         let (sent, dropped) = self.dispatch(n, Sending::All(message));
         Answer::of(ReplicaOutcome::Nothing, sent, dropped, false)
@@ -88,8 +88,8 @@ impl<S: Storage, Q: Quorum, E: Entry> Cluster<S, Q, E> {
     // A replica begins a write.
     fn write(&mut self, n: u32, i: usize, code: u64) -> Result<Answer, Refusal>
         requires few { n ≤ 15 }
-        requires all { n ≡ replicas self.old.storage }
-        ensures { Does page left layer replicas size enough decoded (λ u s. wrote u s i code) self.old self.new result }
+        requires all { n ≡ S.replicas self.old.storage }
+        ensures { Does S.page S.left S.layer S.replicas Q.size Q.enough E.decoded (λ u s. wrote u s i code) self.old self.new result }
     {
         if i >= n as usize {
             return Err(Refusal::NoSuchReplica);
@@ -105,8 +105,8 @@ impl<S: Storage, Q: Quorum, E: Entry> Cluster<S, Q, E> {
     // A replica begins a read.
     fn read(&mut self, n: u32, i: usize) -> Result<Answer, Refusal>
         requires few { n ≤ 15 }
-        requires all { n ≡ replicas self.old.storage }
-        ensures { Does page left layer replicas size enough decoded (λ u s. began_read u s i) self.old self.new result }
+        requires all { n ≡ S.replicas self.old.storage }
+        ensures { Does S.page S.left S.layer S.replicas Q.size Q.enough E.decoded (λ u s. began_read u s i) self.old self.new result }
     {
         if i >= n as usize {
             return Err(Refusal::NoSuchReplica);
@@ -119,8 +119,8 @@ impl<S: Storage, Q: Quorum, E: Entry> Cluster<S, Q, E> {
     // A replica sends its round's message again.
     fn resend(&mut self, n: u32, i: usize) -> Result<Answer, Refusal>
         requires few { n ≤ 15 }
-        requires all { n ≡ replicas self.old.storage }
-        ensures { Does page left layer replicas size enough decoded (λ u s. resent_by u s i) self.old self.new result }
+        requires all { n ≡ S.replicas self.old.storage }
+        ensures { Does S.page S.left S.layer S.replicas Q.size Q.enough E.decoded (λ u s. resent_by u s i) self.old self.new result }
     {
         if i >= n as usize {
             return Err(Refusal::NoSuchReplica);
@@ -133,8 +133,8 @@ impl<S: Storage, Q: Quorum, E: Entry> Cluster<S, Q, E> {
     // A replica goes down.
     fn crash(&mut self, n: u32, i: usize) -> Result<Answer, Refusal>
         requires few { n ≤ 15 }
-        requires all { n ≡ replicas self.old.storage }
-        ensures { Does page left layer replicas size enough decoded (λ u s. crashed_at u s i) self.old self.new result }
+        requires all { n ≡ S.replicas self.old.storage }
+        ensures { Does S.page S.left S.layer S.replicas Q.size Q.enough E.decoded (λ u s. crashed_at u s i) self.old self.new result }
     {
         if i >= n as usize {
             return Err(Refusal::NoSuchReplica);
@@ -146,8 +146,8 @@ impl<S: Storage, Q: Quorum, E: Entry> Cluster<S, Q, E> {
     // A replica comes back.
     fn recover(&mut self, n: u32, i: usize) -> Result<Answer, Refusal>
         requires few { n ≤ 15 }
-        requires all { n ≡ replicas self.old.storage }
-        ensures { Does page left layer replicas size enough decoded (λ u s. recovered_at u s i) self.old self.new result }
+        requires all { n ≡ S.replicas self.old.storage }
+        ensures { Does S.page S.left S.layer S.replicas Q.size Q.enough E.decoded (λ u s. recovered_at u s i) self.old self.new result }
     {
         if i >= n as usize {
             return Err(Refusal::NoSuchReplica);
@@ -158,7 +158,7 @@ impl<S: Storage, Q: Quorum, E: Entry> Cluster<S, Q, E> {
 
     // The message at a place is lost.
     fn lose(&mut self, place: usize) -> Result<Answer, Refusal>
-        ensures { Does page left layer replicas size enough decoded (λ _ s. lost s place) self.old self.new result }
+        ensures { Does S.page S.left S.layer S.replicas Q.size Q.enough E.decoded (λ _ s. lost s place) self.old self.new result }
     {
         if place >= self.table.count() {
             return Err(Refusal::NoMessage);
@@ -170,8 +170,8 @@ impl<S: Storage, Q: Quorum, E: Entry> Cluster<S, Q, E> {
     // The message at a place reaches its receiver. A fault says at which place of a list the event is.
     fn deliver(&mut self, n: u32, place: usize, event: usize) -> Result<Answer, Refusal>
         requires few { n ≤ 15 }
-        requires all { n ≡ replicas self.old.storage }
-        ensures { Does page left layer replicas size enough decoded (λ u s. delivered event u s place) self.old self.new result }
+        requires all { n ≡ S.replicas self.old.storage }
+        ensures { Does S.page S.left S.layer S.replicas Q.size Q.enough E.decoded (λ u s. delivered event u s place) self.old self.new result }
     {
         if place >= self.table.count() {
             return Err(Refusal::NoMessage);
@@ -186,8 +186,8 @@ impl<S: Storage, Q: Quorum, E: Entry> Cluster<S, Q, E> {
     // A message reaches its receiver; one to no replica is ignored. The fault is made of the replica's by `?`.
     fn receive(&mut self, n: u32, message: &Message) -> Result<Answer, ClusterFault>
         requires few { n ≤ 15 }
-        requires all { n ≡ replicas self.old.storage }
-        ensures { Does page left layer replicas size enough decoded (λ u s. received_at u s message.now) self.old self.new result }
+        requires all { n ≡ S.replicas self.old.storage }
+        ensures { Does S.page S.left S.layer S.replicas Q.size Q.enough E.decoded (λ u s. received_at u s message.now) self.old self.new result }
     {
         if message.receiver >= n {
             return Ok(Answer::of(ReplicaOutcome::Nothing, 0, 0, false));
@@ -201,8 +201,8 @@ impl<S: Storage, Q: Quorum, E: Entry> Cluster<S, Q, E> {
 
     // The page of a replica that storage has.
     fn page_of(&self, i: usize) -> Page
-        requires { i < replicas self.now.storage }
-        ensures { result ≡ page self.now.storage i }
+        requires { i < S.replicas self.now.storage }
+        ensures { result ≡ S.page self.now.storage i }
     {
         match self.storage.page(i) {
             Ok(held) => held,

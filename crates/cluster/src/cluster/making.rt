@@ -20,8 +20,8 @@ impl<S: Storage, Q: Quorum, E: Entry> Cluster<S, Q, E> {
     // All replicas are down and nothing is in transit. Only want of memory refuses it, and gives
     // storage and quorum back. Over a fit storage and quorum the cluster is fit.
     pub fn new(heap: Global, storage: S, quorum: Q) -> Result<Cluster<S, Q, E>, NoMemory<S, Q>>
-        ensures cases { MatchResult result (λ c. (c.storage ≡ storage) × (c.quorum ≡ quorum) × (c.blank ≡ blank) × (state_of page left c ≡ begins (page storage) (left storage))) (λ e. (e.storage ≡ storage) × (e.quorum ≡ quorum)) }
-        ensures fit { IfOk result (λ c. (fitness (replicas storage) (size quorum) (λ code. is_some (decoded code)) (page storage) ≡ Ok tt → Fit (setup_of replicas layer size enough decoded c) (state_of page left c))) }
+        ensures cases { MatchResult result (λ c. (c.storage ≡ storage) × (c.quorum ≡ quorum) × (c.blank ≡ E.blank) × (state_of S.page S.left c ≡ begins (S.page storage) (S.left storage))) (λ e. (e.storage ≡ storage) × (e.quorum ≡ quorum)) }
+        ensures fit { IfOk result (λ c. (fitness (S.replicas storage) (Q.size quorum) (λ code. is_some (E.decoded code)) (S.page storage) ≡ Ok tt → Fit (setup_of S.replicas S.layer Q.size Q.enough E.decoded c) (state_of S.page S.left c))) }
     {
         match Table::new(heap) {
             Ok(table) => Ok(Cluster {

@@ -12,7 +12,7 @@ use storage::{Entry, Quorum, Storage};
 impl<S: Storage, Q: Quorum, E: Entry> Cluster<S, Q, E> {
     // How many messages are in transit.
     pub fn in_transit(&self) -> Result<usize, Refusal>
-        ensures { result ≡ counted (setup_of replicas layer size enough decoded self.now) (state_of page left self.now) }
+        ensures { result ≡ counted (setup_of S.replicas S.layer Q.size Q.enough E.decoded self.now) (state_of S.page S.left self.now) }
     {
         check_fitness(&self.storage, &self.quorum, &self.blank)?;
         Ok(self.table.count())
@@ -20,7 +20,7 @@ impl<S: Storage, Q: Quorum, E: Entry> Cluster<S, Q, E> {
 
     // The message at a place.
     pub fn message(&self, place: usize) -> Result<Message, Refusal>
-        ensures { result ≡ message_at (setup_of replicas layer size enough decoded self.now) (state_of page left self.now) place }
+        ensures { result ≡ message_at (setup_of S.replicas S.layer Q.size Q.enough E.decoded self.now) (state_of S.page S.left self.now) place }
     {
         check_fitness(&self.storage, &self.quorum, &self.blank)?;
         if place >= self.table.count() {
@@ -31,7 +31,7 @@ impl<S: Storage, Q: Quorum, E: Entry> Cluster<S, Q, E> {
 
     // The status of a replica.
     pub fn status(&self, i: usize) -> Result<Status, Refusal>
-        ensures { result ≡ status_of (setup_of replicas layer size enough decoded self.now) (state_of page left self.now) i }
+        ensures { result ≡ status_of (setup_of S.replicas S.layer Q.size Q.enough E.decoded self.now) (state_of S.page S.left self.now) i }
     {
         check_fitness(&self.storage, &self.quorum, &self.blank)?;
         if i >= self.storage.replicas() {
@@ -42,7 +42,7 @@ impl<S: Storage, Q: Quorum, E: Entry> Cluster<S, Q, E> {
 
     // The newest message in transit to a replica, or none.
     pub fn newest_to(&self, i: usize) -> Result<Option<Message>, Refusal>
-        ensures { result ≡ newest_to (setup_of replicas layer size enough decoded self.now) (state_of page left self.now) i }
+        ensures { result ≡ newest_to (setup_of S.replicas S.layer Q.size Q.enough E.decoded self.now) (state_of S.page S.left self.now) i }
     {
         check_fitness(&self.storage, &self.quorum, &self.blank)?;
         if i >= self.storage.replicas() {

@@ -9,8 +9,8 @@ loop-receiver-preserved c = (
   sent_more c.loop-receiver.receiver _ _ _ c.args.message.now c.loop-receiver.invariant.1 c.send.ensures.transit,
 )
 
-pub overflow-sub-result : goal.overflow-sub-result
-overflow-sub-result c =
+pub overflow_sub-result : goal.overflow_sub-result
+overflow_sub-result c =
     omega (arith, all_more c.loop-receiver.receiver (vec_items c.args.self.now.transit) c.args.message.now, ap length c.loop-receiver.invariant.1, c.count.ensures, c.count-before.ensures)
 
 pub returns : goal.returns
