@@ -16,9 +16,11 @@ use crate::session::Session;
 use std::alloc::AllocError;
 use std::io;
 use std::io::Read;
+use std::process::ExitCode;
 use storage::stable::memory::MakeError;
 
 // Why the program ends with status 1: standard input or output failed, or there was no memory.
+#[derive(Drop)]
 struct Failure;
 
 impl From<io::Error> for Failure {
@@ -39,15 +41,23 @@ impl From<MakeError> for Failure {
     }
 }
 
-fn main(rt: HostRuntime) -> Result<(), Failure> {
+fn main(rt: HostRuntime) -> ExitCode {
+    match rehearse(&rt) {
+        Ok(()) => ExitCode::SUCCESS,
+        Err(_) => ExitCode::FAILURE,
+    }
+}
+
+// Replies to every line of standard input.
+fn rehearse(rt: &HostRuntime) -> Result<(), Failure> {
     let mut session = Session::new(rt.alloc())?;
     for _ in 0..u64::MAX {
-        if read_some(&rt, &mut session)? == 0 || session.is_over() {
+        if read_some(rt, &mut session)? == 0 || session.is_over() {
             break;
         }
     }
     let last = session.end(rt.alloc())?;
-    say(&rt, last)
+    say(rt, last)
 }
 
 // Reads what standard input has, and says how many bytes that were: 0 at its end.

@@ -8,6 +8,7 @@ mod walk;
 mod words;
 
 use command::{Command, command_of};
+use std::process::ExitCode;
 use std::{env, io};
 use storage::MemoryStorage;
 
@@ -18,6 +19,7 @@ const USAGE: &str = "usage:
   transfer show FILE                   show its pages";
 
 // Why the program ends with status 1; what is to be said has been said.
+#[derive(Drop)]
 pub struct Failure;
 
 impl From<io::Error> for Failure {
@@ -26,10 +28,17 @@ impl From<io::Error> for Failure {
     }
 }
 
-fn main(rt: HostRuntime) -> Result<(), Failure> {
-    match words_of(&rt) {
-        Ok(words) => obey(&rt, &words),
-        Err(_) => show_usage(&rt),
+fn main(rt: HostRuntime) -> ExitCode {
+    match run(&rt) {
+        Ok(()) => ExitCode::SUCCESS,
+        Err(_) => ExitCode::FAILURE,
+    }
+}
+
+fn run(rt: &HostRuntime) -> Result<(), Failure> {
+    match words_of(rt) {
+        Ok(words) => obey(rt, &words),
+        Err(_) => show_usage(rt),
     }
 }
 
