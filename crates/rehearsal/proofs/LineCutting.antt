@@ -4,7 +4,7 @@ use Rattle.cluster.specs.declared.event.Event.{Event}
 use Rattle.rehearsal.specs.Rehearsals.{Stage, waiting, running, over, heard, is_waiting, opened_by, printed, rehearsed, replied_by}
 use Rattle.rehearsal.specs.Commands.{event_of}
 use Rattle.rehearsal.specs.Openings.{opening_of}
-use Rattle.rehearsal.specs.Sessions.{Reading, begun, ended, fed, input_lines, line_ended, lines_after, session_lines, with_byte}
+use Rattle.rehearsal.specs.Sessions.{Reading, begun, input_lines, line_ended, lines_after, session_lines, with_byte}
 use Rattle.rehearsal.specs.declared.opening.Opening.{Opening}
 use Rattle.rehearsal.specs.declared.reply.Reply.{Reply}
 use Rattle.std.proofs.lemmas.List.{append-nil}

@@ -1,8 +1,8 @@
 -- A register of a table in memory and the majority, once it is made. Assumes nothing.
-use Rattle.std.proofs.Common.{◌≡◌, ℕ, ◌≤◌, List, length, replicate, is_some, Ok, Err, vec_items, vec_len, Option, sym, ap, ◌∙◌, arith}
+use Rattle.std.proofs.Common.{◌≡◌, ℕ, ◌≤◌, List, length, replicate, is_some, Ok, vec_items, vec_len, Option, ap, ◌∙◌, arith}
 use native.Mathlib.Decide.{dec_le}
 use lib.ListN.{length-replicate}
-use Rattle.cluster.specs.States.{State, begins}
+use Rattle.cluster.specs.States.{begins}
 use Rattle.cluster.specs.declared.cluster.Cluster.{Cluster}
 use Rattle.rehearsal.specs.Rehearsals.{register_setup, register_state, table_setup, table_state}
 use Rattle.storage.specs.Memories.{blank_cell, left_at, page_at}

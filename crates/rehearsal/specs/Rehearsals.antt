@@ -1,5 +1,5 @@
 -- A rehearsal: what each line brings about and prints. Assumes nothing.
-use Rattle.std.specs.Prelude.{ℕ, Bool, true, false, List, [], ◌∷◌, ◌++◌, length, replicate, is_some, Some, None, Ok, Err, vec_items, vec_len, Option, Result}
+use Rattle.std.specs.Prelude.{ℕ, Bool, true, false, List, [], ◌∷◌, ◌++◌, replicate, is_some, Some, None, Ok, Err, vec_items, vec_len, Option, Result}
 use Rattle.cluster.specs.Acts.{acted}
 use Rattle.cluster.specs.Questions.{counted}
 use Rattle.cluster.specs.States.{Setup, State, begins, setup_of, state_of}
@@ -21,7 +21,6 @@ use Rattle.storage.specs.Memories.{blank_cell, left_at, page_at}
 use Rattle.storage.specs.Quorums.{majority_enough}
 use Rattle.storage.specs.Spans.{span_decoded}
 use Rattle.storage.specs.Weights.{most}
-use Rattle.storage.specs.declared.page.Page.{Page}
 use Rattle.storage.specs.declared.quorum.majority.Majority.{Majority}
 use Rattle.storage.specs.declared.stable.memory.MemoryStorage.{MemoryStorage}
 

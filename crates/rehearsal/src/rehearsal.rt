@@ -26,7 +26,7 @@ pub enum Rehearsal {
 
 // What a line does to a register, and the reply.
 fn reply_to<S: Storage, Q: Quorum, E: Entry>(register: &mut Cluster<S, Q, E>, line: &[u8]) -> Reply
-    ensures { Does page left layer replicas size enough decoded (λ u s. replied u s line.now) register.old register.new result }
+    ensures { Does S.page S.left S.layer S.replicas Q.size Q.enough E.decoded (λ u s. replied u s line.now) register.old register.new result }
 {
     let Some(event) = event_of(line) else {
         return Reply::NotUnderstood;
@@ -93,7 +93,7 @@ fn register_of<E: Entry>(
     opening: &Opening,
 ) -> Result<Cluster<MemoryStorage, Majority, E>, MakeError>
     requires { count_fits opening.now.replicas ≡ true }
-    ensures { MatchResult result (λ c. (register_setup decoded c ≡ table_setup opening.now.replicas (λ code. is_some (decoded code))) × (register_state c ≡ table_state opening.now.replicas opening.now.stores)) (λ e. e ≡ NoMemory) }
+    ensures { MatchResult result (λ c. (register_setup E.decoded c ≡ table_setup opening.now.replicas (λ code. is_some (E.decoded code))) × (register_state c ≡ table_state opening.now.replicas opening.now.stores)) (λ e. e ≡ NoMemory) }
 {
     let storage = MemoryStorage::blank(heap, opening.replicas, opening.stores)?;
     let Ok(majority) = Majority::new(opening.replicas) else {

@@ -49,7 +49,7 @@ fn print_entry(rt: &HostRuntime, code: u64, kind: Kind) -> io::Result<()> {
 
 // The page of replica i and the stores that are left to it.
 pub fn page_and_left<S: Storage>(storage: &S, i: usize) -> Result<(Page, u32), StorageFault>
-    ensures { result ≡ answered (replicas storage.now) i (page storage.now i, left storage.now i) }
+    ensures { result ≡ answered (S.replicas storage.now) i (S.page storage.now i, S.left storage.now i) }
 {
     Ok((storage.page(i)?, storage.stores_left(i)?))
 }

@@ -56,8 +56,8 @@ fn bid_of(cents: u32, buyer: u16) -> Bid
 
 // Stores a page with this bid as the newest entry that the replica has kept.
 fn store_bid<S: Storage>(storage: &mut S, sequence: u32, bid: &Bid) -> Result<(), StorageFault>
-    ensures answer { result ≡ stored (replicas storage.old) 1 (left storage.old 1) (layer storage.old 1) }
-    ensures pages { page storage.new ≡ (if is_ok result then updated (page storage.old) 1 (with_written (page storage.old 1) sequence 1 (bid_code bid.now)) else page storage.old) }
+    ensures answer { result ≡ stored (S.replicas storage.old) 1 (S.left storage.old 1) (S.layer storage.old 1) }
+    ensures pages { S.page storage.new ≡ (if is_ok result then updated (S.page storage.old) 1 (with_written (S.page storage.old 1) sequence 1 (bid_code bid.now)) else S.page storage.old) }
 {
     let mut page = storage.page(REPLICA as usize)?;
     page.written = Timestamp {
