@@ -243,7 +243,7 @@ fn pages_there_and_back(rt: HostRuntime) -> Result<(), Fail> {
     assert!(rt; write::<Bid, FileStorage>(&file, &mut second).is_ok());
     assert!(rt; second == first);
     let bytes = file.into_bytes();
-    assert!(rt; bytes.as_slice() == first);
+    assert!(rt; bytes.as_slice() == first.as_slice());
     Ok(())
 }
 
