@@ -1,22 +1,18 @@
 -- A cluster starts fit. Assumes nothing.
-use Rattle.std.proofs.Common.{◌≡◌, ℕ, zero, suc, ◌<◌, true, leb, List, [], replicate, is_some, Some, Ok, Option, sym, ap, ◌∙◌, subst, leb-true}
+use Rattle.std.proofs.Common.{◌≡◌, ℕ, ◌<◌, true, leb, List, [], replicate, is_some, Some, Ok, Option, sym, ap, ◌∙◌, subst, leb-true}
 use Rattle.cluster.proofs.FitEffects.{blank_fits}
 use Rattle.cluster.proofs.FitPages.{fitness_parts}
 use Rattle.cluster.proofs.StaysFit.{FitRecord}
-use Rattle.cluster.specs.Fitness.{fitness}
+use Rattle.cluster.specs.Fitness.{fitness, message_fits}
 use Rattle.cluster.specs.Laws.{Fit}
 use Rattle.cluster.specs.States.{Setup, State, begins}
 use Rattle.replica.specs.Records.{down}
 use Rattle.replica.specs.declared.message.Message.{Message}
 use Rattle.replica.specs.declared.record.Replica.{Replica}
 use Rattle.std.proofs.lemmas.Bool.{and_from, and_parts}
-use Rattle.std.specs.List.{AllByRecursion}
+use Rattle.std.proofs.lemmas.List.Elements.{All-nil, All-replicate}
 use Rattle.storage.specs.Memories.{count_fits}
 use Rattle.storage.specs.declared.page.Page.{Page}
-
-all_same : {X : Type 0} (P : X → Type 0) (n : ℕ) (x : X) → P x → AllByRecursion P (replicate n x)
-all_same P zero x h = tt
-all_same P (suc n) x h = (h, all_same P n x h)
 
 -- a state with all replicas down and nothing in transit
 pub begins_as : (page : ℕ → Page) (left : ℕ → ℕ) (rs : List Replica) (ms : List Message) → rs ≡ replicate 15 down → ms ≡ [] → ◌≡◌ {A = State} (record { page = page; left = left; records = rs; transit = ms }) (begins page left)
@@ -27,8 +23,8 @@ pub starts_fit : (u : Setup) (s : State) (page : ℕ → Page) (left : ℕ → �
 starts_fit u s page left e v h = subst (Fit u) (sym e) (record {
   storage = h;
   blank = v;
-  records = all_same (FitRecord u) 15 down (and_from _ _ (blank_fits u.replicas u.valid some v) v);
-  transit = tt;
+  records = All-replicate (FitRecord u) 15 down (and_from _ _ (blank_fits u.replicas u.valid some v) v);
+  transit = All-nil (λ m. message_fits u.replicas u.valid m ≡ true);
 })
   where
     some : 0 < u.replicas

@@ -1,5 +1,5 @@
 -- A fit cluster stays fit. Assumes nothing.
-use Rattle.std.proofs.Common.{◌≡◌, ℕ, zero, suc, ◌+◌, ◌<◌, Bool, true, false, cond, ◌&&◌, eqb, List, [], ◌∷◌, ◌++◌, length, get_or, take, drop, Some, None, Ok, Option, Result, sym, subst, arith}
+use Rattle.std.proofs.Common.{◌≡◌, ℕ, zero, suc, ◌+◌, ◌<◌, Bool, true, false, cond, ◌&&◌, eqb, List, [], ◌∷◌, ◌++◌, length, get_or, take, drop, All, Some, None, Ok, Option, Result, sym, subst, inl, inr, arith}
 use Rattle.cluster.proofs.EventCases as event
 use Rattle.cluster.proofs.EventCases.{Happens, happens, message_in, without}
 use Rattle.cluster.proofs.FitEffects.{FitAnswer, FitEffect, FitSending, FitStore, best_fits, blank_fits, receipt_fits, recovery_fits}
@@ -21,18 +21,16 @@ use Rattle.replica.specs.declared.reaction.Sending.{Sending}
 use Rattle.replica.specs.declared.reaction.Sending.TheVariants as sending
 use Rattle.replica.specs.declared.record.Replica.{Replica}
 use Rattle.replica.specs.declared.record.Status.{Status}
-use Rattle.std.proofs.ByRecursion.{All-append, All-drop, All-get_or, All-push, All-set, All-take}
-use Rattle.std.proofs.lemmas.Bool.{and_from}
-use Rattle.std.specs.List.{AllByRecursion}
+use Rattle.std.proofs.lemmas.Bool.{and_from, cases_lt}
+use Rattle.std.proofs.lemmas.List.{get_or_past}
+use Rattle.std.proofs.lemmas.List.Elements.{All-append, All-drop, All-get_or, All-push, All-set, All-take}
 use Rattle.storage.specs.Memories.{count_fits}
 use Rattle.storage.specs.Timestamps.{blank_timestamp}
 use Rattle.storage.specs.declared.page.Page.{Page}
 
 -- what holds of each element and of the default holds of what is read
-all_read : {X : Type 0} (P : X → Type 0) (xs : List X) (i : ℕ) (d : X) → AllByRecursion P xs → P d → P (get_or xs i d)
-all_read P [] i d h k = k
-all_read P (x ∷ xs) zero d h k = h.0
-all_read P (x ∷ xs) (suc i) d h k = all_read P xs i d h.1 k
+all_read : {X : Type 0} (P : X → Type 0) (xs : List X) (i : ℕ) (d : X) → All P xs → P d → P (get_or xs i d)
+all_read P xs i d h k = elim (cases_lt i (length xs)) [ inl there ↦ h i d there | inr past ↦ subst P (sym (get_or_past xs i d past)) k ]
 
 abbrev pub FitRecord : Setup → Replica → Type 0
 FitRecord u r = record_fits u.replicas u.valid r ≡ true
@@ -41,14 +39,14 @@ abbrev FitMessage : Setup → Message → Type 0
 FitMessage u m = message_fits u.replicas u.valid m ≡ true
 
 -- messages that find room
-room : (P : Message → Type 0) (ms : List Message) (m : Message) → P m → AllByRecursion P ms → AllByRecursion P (with_sent ms m)
+room : (P : Message → Type 0) (ms : List Message) (m : Message) → P m → All P ms → All P (with_sent ms m)
 room P ms m k h = go (room_in ms)
   where
-    go : (b : Bool) → AllByRecursion P (cond b (ms ++ m ∷ []) ms)
+    go : (b : Bool) → All P (cond b (ms ++ m ∷ []) ms)
     go true = All-push P ms m h k
     go false = h
 
-all_sent : (P : Message → Type 0) (n : ℕ) (ms : List Message) (m : Message) → ((j : ℕ) → P (addressed m j)) → AllByRecursion P ms → AllByRecursion P (sent_to_all n ms m)
+all_sent : (P : Message → Type 0) (n : ℕ) (ms : List Message) (m : Message) → ((j : ℕ) → P (addressed m j)) → All P ms → All P (sent_to_all n ms m)
 all_sent P zero ms m k h = h
 all_sent P (suc n) ms m k h = room P (sent_to_all n ms m) (addressed m n) (k n) (all_sent P n ms m k h)
 
@@ -84,7 +82,7 @@ module _ (u : Setup) (s : State) (fit : Fit u s) where
   record_set_fit : (i : ℕ) (r : Replica) → FitRecord u r → Fit u (with_record s i r)
   record_set_fit i r h = record { storage = fit.storage; blank = fit.blank; records = All-set (FitRecord u) s.records i r h fit.records; transit = fit.transit }
 
-  transit_fit : (ms : List Message) → AllByRecursion (FitMessage u) ms → Fit u (with_transit s ms)
+  transit_fit : (ms : List Message) → All (FitMessage u) ms → Fit u (with_transit s ms)
   transit_fit ms h = record { storage = fit.storage; blank = fit.blank; records = fit.records; transit = h }
 
   without_fit : (p : ℕ) → Fit u (without s p)

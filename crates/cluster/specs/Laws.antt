@@ -1,6 +1,5 @@
 -- What events keep. Assumes nothing.
-use Rattle.std.specs.Prelude.{◌≡◌, ℕ, zero, suc, ◌+◌, true, length, Ok}
-use Rattle.std.specs.List.{AllByRecursion}
+use Rattle.std.specs.Prelude.{◌≡◌, ℕ, zero, suc, ◌+◌, true, length, All, Ok}
 use Rattle.cluster.specs.Fitness.{fitness, message_fits, record_fits}
 use Rattle.cluster.specs.States.{Setup, State}
 use Rattle.cluster.specs.declared.answer.Answer.{Answer}
@@ -44,5 +43,5 @@ pub record Balanced (u : Setup) (s t : State) (e : Event) (a : Answer) : Type 0 
 pub record Fit (u : Setup) (s : State) : Type 0 where
   pub storage : fitness u.replicas u.size u.valid s.page ≡ Ok tt
   pub blank : u.valid 0 ≡ true
-  pub records : AllByRecursion (λ r. record_fits u.replicas u.valid r ≡ true) s.records
-  pub transit : AllByRecursion (λ m. message_fits u.replicas u.valid m ≡ true) s.transit
+  pub records : All (λ r. record_fits u.replicas u.valid r ≡ true) s.records
+  pub transit : All (λ m. message_fits u.replicas u.valid m ≡ true) s.transit

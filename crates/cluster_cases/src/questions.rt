@@ -13,7 +13,7 @@ fn number_of<T: Drop>(res: Result<T, Refusal>) -> u8 {
 }
 
 #[test]
-fn messages_and_statuses_are_told(rt: HostRuntime) -> Result<(), Fail> {
+fn messages_and_statuses_are_answered(rt: HostRuntime) -> Result<(), Fail> {
     let storage = MemoryStorage::blank(rt.alloc(), 2, 9)?;
     let Ok(mut register) = Cluster::<MemoryStorage, Majority, Span>::new(
         rt.alloc(),
@@ -60,13 +60,8 @@ fn messages_and_statuses_are_told(rt: HostRuntime) -> Result<(), Fail> {
     assert_eq!(rt; number_of(register.run(&events, &mut answers)), 7);
     assert_eq!(rt; outcome_of(&answers[0]), (b'x', 14));
     match register.in_transit() {
-        Ok(count) => {
-            assert_eq!(rt; count, 2);
-            Ok(())
-        },
-        Err(_) => {
-            assert!(rt; false);
-            Ok(())
-        },
+        Ok(count) => assert_eq!(rt; count, 2),
+        Err(_) => assert!(rt; false),
     }
+    Ok(())
 }

@@ -94,11 +94,8 @@ fn a_refused_store_says_its_task(rt: HostRuntime) -> Result<(), Fail> {
             assert_eq!(rt; fault.number(), 17);
             assert_eq!(rt; fault.layer(), 0);
             assert_eq!(rt; fault.replica(), 0);
-            Ok(())
         }
-        _ => {
-            assert!(rt; false);
-            Ok(())
-        },
+        _ => assert!(rt; false),
     }
+    Ok(())
 }
