@@ -6,7 +6,7 @@ ghost use Rattle.storage.specs.Files.{Accepted, count_in, file_held, file_length
 ghost use Rattle.storage.specs.Opened.{opened};
 ghost use Rattle.storage.specs.Records.{record_bytes, records_with};
 ghost use Rattle.storage.specs.Storages.{stored, updated};
-ghost use Rattle.std.proofs.Common.{rules, arith};
+ghost use Rattle.std.proofs.Common.{rules};
 
 use crate::entry::Entry;
 use crate::fault::StorageFault;
@@ -70,7 +70,7 @@ impl Storage for FileStorage {
 
     ghost layer = { λ _ _. 0 };
 
-    ghost layers = { first_of (Prim.search rules, Prim.grind (arith, Self.row.coded.inj)) };
+    ghost layers = { Prim.search rules };
 
     fn replicas(&self) -> usize {
         self.count

@@ -2,7 +2,7 @@
 ghost use Rattle.std.specs.Prelude.{◌≡◌};
 ghost use Rattle.storage.specs.Spans.{span_code, span_decoded, span_of, no_span};
 ghost use Rattle.storage.specs.SpanCodes;
-ghost use Rattle.std.proofs.Common.{rules, arith};
+ghost use Rattle.std.proofs.Common.{rules};
 
 use super::Span;
 use crate::entry::Entry;
@@ -42,11 +42,11 @@ impl Entry for Span {
 
     ghost reads = { λ s. SpanCodes.reads s };
 
-    ghost only = { first_of (Prim.search rules, Prim.grind (arith, Self.row.coded.inj)) };
+    ghost only = { Prim.search rules };
 
-    ghost zero = { first_of (Prim.search rules, Prim.grind (arith, Self.row.coded.inj)) };
+    ghost zero = { Prim.search rules };
 
-    ghost fits = { first_of (Prim.search rules, Prim.grind (arith, Self.row.coded.inj)) };
+    ghost fits = { Prim.search rules };
 
     fn kind_number() -> u8 {
         Self::KIND

@@ -2,7 +2,6 @@
 ghost use Rattle.std.specs.Prelude.{◌≡◌};
 ghost use Rattle.storage.specs.Quorums.{majority_of, majority_enough};
 ghost use Rattle.storage.specs.Meeting.{most_laws};
-ghost use Rattle.std.proofs.Common.{rules, arith};
 
 use super::Majority;
 use crate::quorum::Quorum;
@@ -27,9 +26,9 @@ impl Quorum for Majority {
 
     ghost enough = { majority_enough };
 
-    ghost some = { first_of (Prim.search rules, Prim.grind (arith, Self.row.coded.inj)) };
+    ghost some = { λ q. q.some };
 
-    ghost few = { first_of (Prim.search rules, Prim.grind (arith, Self.row.coded.inj)) };
+    ghost few = { λ q. q.few };
 
     ghost shared = { λ q. (most_laws q.replicas q.some).shared };
 

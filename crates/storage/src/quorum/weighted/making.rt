@@ -3,7 +3,6 @@ ghost use Rattle.std.specs.Prelude.{◌≡◌};
 ghost use Rattle.storage.specs.Quorums.{weighted_of, weighted_enough};
 ghost use Rattle.storage.specs.Weights.{weight_at};
 ghost use Rattle.storage.specs.Meeting.{heavy_laws};
-ghost use Rattle.std.proofs.Common.{rules, arith};
 
 use super::Weighted;
 use crate::quorum::Quorum;
@@ -40,9 +39,9 @@ impl Quorum for Weighted {
 
     ghost enough = { weighted_enough };
 
-    ghost some = { first_of (Prim.search rules, Prim.grind (arith, Self.row.coded.inj)) };
+    ghost some = { λ q. q.some };
 
-    ghost few = { first_of (Prim.search rules, Prim.grind (arith, Self.row.coded.inj)) };
+    ghost few = { λ q. q.few };
 
     ghost shared = { λ q. (heavy_laws (weight_at q.weights) q.replicas q.weighs).shared };
 
