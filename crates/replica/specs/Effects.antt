@@ -4,6 +4,7 @@ use Rattle.replica.specs.declared.record.Replica.{Replica}
 use Rattle.storage.specs.Storages.{stored, updated}
 use Rattle.storage.specs.declared.fault.StorageFault.{StorageFault}
 use Rattle.storage.specs.declared.page.Page.{Page}
+use Rattle.storage.specs.declared.stable.Storage.{Ghosts as StorageOf}
 
 -- what stable storage has for one replica: how many replicas there are, this one's number and page,
 -- the stores left to it, and the layer that refuses once none is
@@ -14,9 +15,9 @@ pub record Place : Type 0 where
   pub left : ℕ
   pub layer : ℕ
 
--- the place of replica i, with page p, in a storage whose meaning is given
-abbrev pub place : {S : Type 0} → (S → ℕ) → (S → ℕ → ℕ) → (S → ℕ → ℕ) → S → ℕ → Page → Place
-place replicas left layer s i p = record { replicas = replicas s; own = i; page = p; left = left s i; layer = layer s i }
+-- the place of replica i, with page p, in the storage s, whose meaning is m
+abbrev pub place : {S : Type 0} → StorageOf S → S → ℕ → Page → Place
+place m s i p = record { replicas = m.replicas s; own = i; page = p; left = m.left s i; layer = m.layer s i }
 
 -- what a store at a place answers
 abbrev pub store_at : Place → Result (Unit {0}) StorageFault
@@ -37,11 +38,11 @@ abbrev pub left_after : ℕ → Option Page → (ℕ → ℕ) → ℕ → ℕ
 left_after i None left = left
 left_after i (Some p) left = updated left i (left i - 1)
 
--- storage s became t, the record became r and the answer is a, as the effect e at replica i says
-pub record Performs {S A : Type 0} (replicas : S → ℕ) (page : S → ℕ → Page) (left layer : S → ℕ → ℕ) (i : ℕ) (e : Effect A) (s t : S) (r : Replica) (a : A) : Type 0 where
+-- storage s, whose meaning is m, became t, the record became r and the answer is a, as the effect e at replica i says
+pub record Performs {S A : Type 0} (m : StorageOf S) (i : ℕ) (e : Effect A) (s t : S) (r : Replica) (a : A) : Type 0 where
   pub answer : a ≡ e.answer
   pub replica : r ≡ e.replica
-  pub pages : page t ≡ pages_after i e.stores (page s)
-  pub lefts : left t ≡ left_after i e.stores (left s)
-  pub layers : layer t ≡ layer s
-  pub size : replicas t ≡ replicas s
+  pub pages : m.page t ≡ pages_after i e.stores (m.page s)
+  pub lefts : m.left t ≡ left_after i e.stores (m.left s)
+  pub layers : m.layer t ≡ m.layer s
+  pub size : m.replicas t ≡ m.replicas s

@@ -20,7 +20,7 @@ impl Replica {
         quorum: &Q,
         message: &Message,
     ) -> Result<Reaction, ReplicaFault>
-        ensures { Performs S.replicas S.page S.left S.layer message.now.receiver (received (Q.enough quorum.now) (place S.replicas S.left S.layer storage.old message.now.receiver (S.page storage.old message.now.receiver)) self.old message.now) storage.old storage.new self.new result }
+        ensures { Performs S.Storage message.now.receiver (received (Q.enough quorum.now) (place S.Storage storage.old message.now.receiver (S.page storage.old message.now.receiver)) self.old message.now) storage.old storage.new self.new result }
     {
         let Ok(held) = storage.page(message.receiver as usize) else {
             return Ok(Reaction::NOTHING);
@@ -38,7 +38,7 @@ impl Replica {
         held: &Page,
         message: &Message,
     ) -> Result<Reaction, ReplicaFault>
-        ensures { Performs S.replicas S.page S.left S.layer message.now.receiver (followed step (Q.enough quorum.now) (place S.replicas S.left S.layer storage.old message.now.receiver held.now) self.old message.now) storage.old storage.new self.new result }
+        ensures { Performs S.Storage message.now.receiver (followed step (Q.enough quorum.now) (place S.Storage storage.old message.now.receiver held.now) self.old message.now) storage.old storage.new self.new result }
     {
         match step {
             Step::Ignore => Ok(Reaction::NOTHING),
@@ -60,7 +60,7 @@ impl Replica {
         held: &Page,
         message: &Message,
     ) -> Result<Reaction, ReplicaFault>
-        ensures { Performs S.replicas S.page S.left S.layer message.now.receiver (kept_if (store_at (place S.replicas S.left S.layer storage.old message.now.receiver held.now)) (place S.replicas S.left S.layer storage.old message.now.receiver held.now) self.old message.now) storage.old storage.new self.new result }
+        ensures { Performs S.Storage message.now.receiver (kept_if (store_at (place S.Storage storage.old message.now.receiver held.now)) (place S.Storage storage.old message.now.receiver held.now) self.old message.now) storage.old storage.new self.new result }
     {
         let new = Page {
             written: message.timestamp,
@@ -79,7 +79,7 @@ impl Replica {
         own: u32,
         held: &Page,
     ) -> Result<Reaction, ReplicaFault>
-        ensures { Performs S.replicas S.page S.left S.layer own (queried (Q.enough quorum.now) (place S.replicas S.left S.layer storage.old own held.now) self.old) storage.old storage.new self.new result }
+        ensures { Performs S.Storage own (queried (Q.enough quorum.now) (place S.Storage storage.old own held.now) self.old) storage.old storage.new self.new result }
     {
         if !quorum.is_quorum(&self.heard) {
             return Ok(Reaction::NOTHING);
@@ -111,7 +111,7 @@ impl Replica {
         own: u32,
         held: &Page,
     ) -> Result<Reaction, ReplicaFault>
-        ensures { Performs S.replicas S.page S.left S.layer own (writer_updates (place S.replicas S.left S.layer storage.old own held.now) self.old) storage.old storage.new self.new result }
+        ensures { Performs S.Storage own (writer_updates (place S.Storage storage.old own held.now) self.old) storage.old storage.new self.new result }
     {
         self.status = Status::Idle;
         if self.best.sequence >= Timestamp::LAST_SEQUENCE {

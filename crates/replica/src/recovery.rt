@@ -24,7 +24,7 @@ impl Replica {
         storage: &mut S,
         own: u32,
     ) -> Result<Reaction, ReplicaRefusal>
-        ensures { Performs S.replicas S.page S.left S.layer own (recovered (place S.replicas S.left S.layer storage.old own (S.page storage.old own)) self.old) storage.old storage.new self.new result }
+        ensures { Performs S.Storage own (recovered (place S.Storage storage.old own (S.page storage.old own)) self.old) storage.old storage.new self.new result }
     {
         match self.status {
             Status::Down => {}
