@@ -1,30 +1,24 @@
 -- What the faults of a replica say. Assumes nothing.
-use Rattle.std.specs.Prelude.{ℕ, Ok, Err, Result}
+use Rattle.std.specs.Prelude.{ℕ, Some, None}
 use Rattle.replica.specs.declared.fault.Cause.{Cause}
 use Rattle.replica.specs.declared.fault.Cause.TheVariants.{Storage, SequenceUsedUp}
 use Rattle.replica.specs.declared.fault.ReplicaFault.{ReplicaFault}
 use Rattle.replica.specs.declared.fault.Task.{Task}
-use Rattle.replica.specs.declared.fault.Task.TheVariants.{Unnamed, NotingIntention}
+use Rattle.replica.specs.declared.fault.Task.TheVariants.{NotingIntention}
 use Rattle.storage.specs.Faults.{fault_number}
 use Rattle.storage.specs.declared.fault.StorageFault.{StorageFault}
 
 -- a refusal of storage, before the call that knows the task has named it
 abbrev pub met : StorageFault → ReplicaFault
-met f = record { cause = Storage f; task = Unnamed }
+met f = record { cause = Storage f; task = None }
 
--- the same result, with this task in its fault
-abbrev pub tasked : {X : Type 0} → Task → Result X ReplicaFault → Result X ReplicaFault
-tasked t (Ok x) = Ok x
-tasked t (Err f) = Err (record { cause = f.cause; task = t })
-
--- what storage answered, as a replica at this task passes it on
-abbrev pub passed : {X : Type 0} → Task → Result X StorageFault → Result X ReplicaFault
-passed t (Ok x) = Ok x
-passed t (Err f) = Err (record { cause = Storage f; task = t })
+-- the same fault, met at this task
+abbrev pub tasked : Task → ReplicaFault → ReplicaFault
+tasked t f = record { cause = f.cause; task = Some t }
 
 -- replica i has no greater timestamp to write with
 abbrev pub used_up : ℕ → ReplicaFault
-used_up i = record { cause = SequenceUsedUp i; task = NotingIntention }
+used_up i = record { cause = SequenceUsedUp i; task = Some NotingIntention }
 
 abbrev pub cause_number : Cause → ℕ
 cause_number (Storage f) = fault_number f

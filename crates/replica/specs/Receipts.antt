@@ -45,7 +45,7 @@ intending p s c = record { incarnation = p.incarnation; written = p.written; wri
 -- an update is stored, and only then acknowledged
 abbrev pub kept_if : Result (Unit {0}) StorageFault → Place → Replica → Message → Received
 kept_if (Ok u) a r m = record { replica = r; stores = Some (keeping a.page m.timestamp m.code); answer = Ok (replying (ack m) true) }
-kept_if (Err f) a r m = failing r (record { cause = Storage f; task = KeepingUpdate })
+kept_if (Err f) a r m = failing r (record { cause = Storage f; task = Some KeepingUpdate })
 
 -- nothing is stored, and these are the record and the reaction
 abbrev pub as_reaction : Replica × Reaction → Received
@@ -69,7 +69,7 @@ intended_if (Ok u) a r = record {
   stores = Some (intending a.page (r.best.sequence + 1) r.write_code);
   answer = Ok (updating (update a.own (ticket a.page.incarnation (next_round r)) (chosen a r) r.write_code) true);
 }
-intended_if (Err f) a r = failing (with_status status.Idle r) (record { cause = Storage f; task = NotingIntention })
+intended_if (Err f) a r = failing (with_status status.Idle r) (record { cause = Storage f; task = Some NotingIntention })
 
 -- a writer that has heard of the last sequence has no timestamp to write with
 abbrev pub writer_updates : Place → Replica → Received

@@ -39,7 +39,7 @@ refusing r f = record { replica = r; stores = None; answer = Err f }
 
 -- storage refused
 abbrev pub failing : Replica → StorageFault → Comeback
-failing r f = refusing r (refusal.Failed (record { cause = Storage f; task = task.Recovering }))
+failing r f = refusing r (refusal.Failed (record { cause = Storage f; task = Some task.Recovering }))
 
 abbrev pub raised_if : Result (Unit {0}) StorageFault → Place → Replica → Comeback
 raised_if (Ok u) a r = record {

@@ -5,16 +5,14 @@ ghost use Rattle.replica.specs.Faults.{layer_of, met, number_of, replica_of, tas
 use storage::StorageFault;
 
 // What the replica was doing.
-#[derive(Clone, Copy, PartialEq, Eq)]
+#[derive(Clone, Copy, PartialEq, Eq, Debug)]
 pub enum Task {
-    // not said yet: no call outside this crate sees it
-    Unnamed,
     KeepingUpdate,
     NotingIntention,
     Recovering,
 }
 
-#[derive(Clone, Copy)]
+#[derive(Clone, Copy, PartialEq, Eq, Debug)]
 pub enum Cause {
     // storage refused, and this is all that it said
     Storage(StorageFault),
@@ -22,10 +20,11 @@ pub enum Cause {
     SequenceUsedUp { replica: u32 },
 }
 
-#[derive(Clone, Copy)]
+#[derive(Clone, Copy, PartialEq, Eq, Debug)]
 pub struct ReplicaFault {
     pub cause: Cause,
-    pub task: Task,
+    // no public call leaves it out
+    pub task: Option<Task>,
 }
 
 impl From<StorageFault> for ReplicaFault {
@@ -34,25 +33,22 @@ impl From<StorageFault> for ReplicaFault {
     fn from(fault: StorageFault) -> ReplicaFault {
         ReplicaFault {
             cause: Cause::Storage(fault),
-            task: Task::Unnamed,
+            task: None,
         }
     }
 }
 
-// The result, with the task named in its fault: the caller knows it.
-pub(crate) fn during<T>(task: Task, res: Result<T, ReplicaFault>) -> Result<T, ReplicaFault>
-    ensures { result ≡ tasked task res }
-{
-    match res {
-        Ok(value) => Ok(value),
-        Err(fault) => Err(ReplicaFault {
-            cause: fault.cause,
-            task,
-        }),
-    }
-}
-
 impl ReplicaFault {
+    // The same fault, with the task named: the caller of storage knows it.
+    pub(crate) fn during(self, task: Task) -> ReplicaFault
+        ensures { result ≡ tasked task self }
+    {
+        ReplicaFault {
+            task: Some(task),
+            ..self
+        }
+    }
+
     pub fn number(&self) -> u8
         ensures { result ≡ number_of self.now }
     {

@@ -9,12 +9,13 @@ pub mod receipt;
 pub mod record;
 pub mod recovery;
 pub mod refusal;
+pub mod site;
 pub mod step;
-mod storing;
 
 pub use fault::{ReplicaFault, Task};
 pub use message::{Message, MessageKind, Ticket};
 pub use reaction::{Outcome, Reaction, Sending};
 pub use record::{Replica, Status};
 pub use refusal::ReplicaRefusal;
+pub use site::Site;
 pub use step::Step;

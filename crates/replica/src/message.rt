@@ -4,7 +4,7 @@ ghost use Rattle.replica.specs.Messages.{ack, answered_with};
 
 use storage::Timestamp;
 
-#[derive(Clone, Copy, PartialEq, Eq)]
+#[derive(Clone, Copy, PartialEq, Eq, Debug)]
 pub enum MessageKind {
     // what is the newest entry that you have kept?
     Query,
@@ -18,14 +18,14 @@ pub enum MessageKind {
 
 // The operation that a message belongs to: the incarnation and the round of the replica that runs it.
 // Report and Ack repeat the ticket that they respond to.
-#[derive(Clone, Copy, PartialEq, Eq)]
+#[derive(Clone, Copy, PartialEq, Eq, Debug)]
 pub struct Ticket {
     pub incarnation: u32,
     pub round: u32,
 }
 
 // Query and Ack have the blank timestamp and code 0.
-#[derive(Clone, Copy, PartialEq, Eq)]
+#[derive(Clone, Copy, PartialEq, Eq, Debug)]
 pub struct Message {
     pub kind: MessageKind,
     pub sender: u32,

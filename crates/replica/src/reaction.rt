@@ -5,18 +5,17 @@ ghost use Rattle.replica.specs.Reactions.{replying, ending, updating};
 use crate::message::Message;
 use storage::Timestamp;
 
-#[derive(Clone, Copy)]
+#[derive(Clone, Copy, PartialEq, Eq, Debug)]
 pub enum Sending {
-    Nothing,
     // to its receiver
     One(Message),
     // to every replica in turn, the sender included
     All(Message),
 }
 
-#[derive(Clone, Copy)]
+// What was finished.
+#[derive(Clone, Copy, PartialEq, Eq, Debug)]
 pub enum Outcome {
-    Nothing,
     // the write is finished: when it was written
     Written(Timestamp),
     // the read is finished: when what it read was written, and its code
@@ -25,10 +24,10 @@ pub enum Outcome {
     Recovered,
 }
 
-#[derive(Clone, Copy)]
+#[derive(Clone, Copy, PartialEq, Eq, Debug)]
 pub struct Reaction {
-    pub sending: Sending,
-    pub outcome: Outcome,
+    pub sending: Option<Sending>,
+    pub outcome: Option<Outcome>,
     // whether a page was stored
     pub stored: bool,
 }
@@ -36,8 +35,8 @@ pub struct Reaction {
 impl Reaction {
     // Nothing is sent, stored or finished.
     pub(crate) const NOTHING: Reaction = Reaction {
-        sending: Sending::Nothing,
-        outcome: Outcome::Nothing,
+        sending: None,
+        outcome: None,
         stored: false,
     };
 
@@ -46,8 +45,8 @@ impl Reaction {
         ensures { result ≡ replying message stored }
     {
         Reaction {
-            sending: Sending::One(message),
-            outcome: Outcome::Nothing,
+            sending: Some(Sending::One(message)),
+            outcome: None,
             stored,
         }
     }
@@ -57,8 +56,8 @@ impl Reaction {
         ensures { result ≡ updating message stored }
     {
         Reaction {
-            sending: Sending::All(message),
-            outcome: Outcome::Nothing,
+            sending: Some(Sending::All(message)),
+            outcome: None,
             stored,
         }
     }
@@ -68,8 +67,8 @@ impl Reaction {
         ensures { result ≡ ending outcome stored }
     {
         Reaction {
-            sending: Sending::Nothing,
-            outcome,
+            sending: None,
+            outcome: Some(outcome),
             stored,
         }
     }

@@ -7,8 +7,8 @@ use crate::fault::{Cause, ReplicaFault, Task};
 use crate::message::{Message, MessageKind};
 use crate::reaction::{Outcome, Reaction};
 use crate::record::{Replica, Status};
+use crate::site::Site;
 use crate::step::Step;
-use crate::storing::store_page;
 use storage::{Page, Quorum, Storage, Timestamp};
 
 impl Replica {
@@ -22,33 +22,35 @@ impl Replica {
     ) -> Result<Reaction, ReplicaFault>
         ensures { Performs S.Storage message.now.receiver (received (Q.enough quorum.now) (place S.Storage storage.old message.now.receiver (S.page storage.old message.now.receiver)) self.old message.now) storage.old storage.new self.new result }
     {
-        let Ok(held) = storage.page(message.receiver as usize) else {
+        let Ok(page) = storage.page(message.receiver as usize) else {
             return Ok(Reaction::NOTHING);
         };
-        let step = self.step(&held, message);
-        self.follow(step, storage, quorum, &held, message)
+        let step = self.step(&page, message);
+        let own = message.receiver;
+        self.follow(step, storage, quorum, &Site { own, page }, message)
     }
 
-    // Does what the step said, for a replica that holds this page.
+    // Does what the step said.
     fn follow<S: Storage, Q: Quorum>(
         &mut self,
         step: Step,
         storage: &mut S,
         quorum: &Q,
-        held: &Page,
+        site: &Site,
         message: &Message,
     ) -> Result<Reaction, ReplicaFault>
-        ensures { Performs S.Storage message.now.receiver (followed step (Q.enough quorum.now) (place S.Storage storage.old message.now.receiver held.now) self.old message.now) storage.old storage.new self.new result }
+        ensures { Performs S.Storage site.now.own (followed step (Q.enough quorum.now) (place S.Storage storage.old site.now.own site.now.page) self.old message.now) storage.old storage.new self.new result }
     {
         match step {
             Step::Ignore => Ok(Reaction::NOTHING),
             Step::Report => {
-                let report = message.answer(MessageKind::Report, held.written, held.written_code);
+                let page = &site.page;
+                let report = message.answer(MessageKind::Report, page.written, page.written_code);
                 Ok(Reaction::reply(report, false))
             }
             Step::Acknowledge => Ok(Reaction::reply(message.ack(), false)),
-            Step::Keep => self.keep(storage, held, message),
-            Step::HearReport => self.end_query(storage, quorum, message.receiver, held),
+            Step::Keep => self.keep(storage, site, message),
+            Step::HearReport => self.end_query(storage, quorum, site),
             Step::HearAck => Ok(self.end_update(quorum)),
         }
     }
@@ -57,17 +59,19 @@ impl Replica {
     fn keep<S: Storage>(
         &mut self,
         storage: &mut S,
-        held: &Page,
+        site: &Site,
         message: &Message,
     ) -> Result<Reaction, ReplicaFault>
-        ensures { Performs S.Storage message.now.receiver (kept_if (store_at (place S.Storage storage.old message.now.receiver held.now)) (place S.Storage storage.old message.now.receiver held.now) self.old message.now) storage.old storage.new self.new result }
+        ensures { Performs S.Storage site.now.own (kept_if (store_at (place S.Storage storage.old site.now.own site.now.page)) (place S.Storage storage.old site.now.own site.now.page) self.old message.now) storage.old storage.new self.new result }
     {
         let new = Page {
             written: message.timestamp,
             written_code: message.code,
-            ..*held
+            ..site.page
         };
-        store_page(storage, message.receiver, new, Task::KeepingUpdate)?;
+        storage.store(site.own as usize, new).map_err(|fault| ReplicaFault::from(fault).during(
+            Task::KeepingUpdate,
+        ))?;
         Ok(Reaction::reply(message.ack(), true))
     }
 
@@ -76,23 +80,22 @@ impl Replica {
         &mut self,
         storage: &mut S,
         quorum: &Q,
-        own: u32,
-        held: &Page,
+        site: &Site,
     ) -> Result<Reaction, ReplicaFault>
-        ensures { Performs S.Storage own (queried (Q.enough quorum.now) (place S.Storage storage.old own held.now) self.old) storage.old storage.new self.new result }
+        ensures { Performs S.Storage site.now.own (queried (Q.enough quorum.now) (place S.Storage storage.old site.now.own site.now.page) self.old) storage.old storage.new self.new result }
     {
         if !quorum.is_quorum(&self.heard) {
             return Ok(Reaction::NOTHING);
         }
         match self.status {
-            Status::QueryingToRead => Ok(self.update_best(own, held)),
-            _ => self.update_intended(storage, own, held),
+            Status::QueryingToRead => Ok(self.update_best(site)),
+            _ => self.update_intended(storage, site),
         }
     }
 
     // A reader updates all with the best that was reported.
-    fn update_best(&mut self, own: u32, held: &Page) -> Reaction
-        ensures { reader_updates own held.now self.old ≡ (self.new, result) }
+    fn update_best(&mut self, site: &Site) -> Reaction
+        ensures { reader_updates site.now.own site.now.page self.old ≡ (self.new, result) }
     {
         *self = Replica::opening(
             Status::UpdatingRead,
@@ -101,39 +104,40 @@ impl Replica {
             self.best_code,
             self.write_code,
         );
-        Reaction::update(self.update(own, held), false)
+        Reaction::update(self.update(site), false)
     }
 
     // A writer stores its timestamp and code as intended, and updates all with them.
     fn update_intended<S: Storage>(
         &mut self,
         storage: &mut S,
-        own: u32,
-        held: &Page,
+        site: &Site,
     ) -> Result<Reaction, ReplicaFault>
-        ensures { Performs S.Storage own (writer_updates (place S.Storage storage.old own held.now) self.old) storage.old storage.new self.new result }
+        ensures { Performs S.Storage site.now.own (writer_updates (place S.Storage storage.old site.now.own site.now.page) self.old) storage.old storage.new self.new result }
     {
         self.status = Status::Idle;
         if self.best.sequence >= Timestamp::LAST_SEQUENCE {
             return Err(ReplicaFault {
-                cause: Cause::SequenceUsedUp { replica: own },
-                task: Task::NotingIntention,
+                cause: Cause::SequenceUsedUp { replica: site.own },
+                task: Some(Task::NotingIntention),
             });
         }
         let chosen = Timestamp {
             sequence: self.best.sequence + 1,
-            replica: own,
+            replica: site.own,
         };
         let code = self.write_code;
         let new = Page {
             intended_sequence: chosen.sequence,
             intended_code: code,
-            ..*held
+            ..site.page
         };
-        store_page(storage, own, new, Task::NotingIntention)?;
+        storage.store(site.own as usize, new).map_err(|fault| ReplicaFault::from(fault).during(
+            Task::NotingIntention,
+        ))?;
         let round = self.round.saturating_add(1);
         *self = Replica::opening(Status::UpdatingWrite, round, chosen, code, code);
-        Ok(Reaction::update(self.update(own, held), true))
+        Ok(Reaction::update(self.update(site), true))
     }
 
     // Once enough replicas have acknowledged, the operation is finished.

@@ -5,7 +5,7 @@ ghost use Rattle.replica.specs.declared.refusal.ReplicaRefusal.TheVariants.{Fail
 
 use crate::fault::ReplicaFault;
 
-#[derive(Clone, Copy)]
+#[derive(Clone, Copy, PartialEq, Eq, Debug)]
 pub enum ReplicaRefusal {
     // it is down
     Down,

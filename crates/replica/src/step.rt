@@ -7,7 +7,7 @@ use crate::message::{Message, MessageKind};
 use crate::record::{Replica, Status};
 use storage::Page;
 
-#[derive(Clone, Copy, PartialEq, Eq)]
+#[derive(Clone, Copy, PartialEq, Eq, Debug)]
 pub enum Step {
     // nothing
     Ignore,
