@@ -1,5 +1,5 @@
 // Writes, reads, resends and crashes in each status, and at the last rounds.
-use crate::scene::{INCARNATION, ROUND, at, page, replica_in};
+use crate::scene::{INCARNATION, ROUND, at, replica_in, site};
 use replica::{Message, MessageKind, Replica, ReplicaRefusal, Status, Ticket};
 use storage::Timestamp;
 
@@ -41,8 +41,8 @@ fn only_an_idle_replica_begins(rt: HostRuntime) {
     for (status, refusal) in STATUSES.into_iter().zip([11, 0, 13, 13, 13, 13, 13]) {
         let mut writer = replica_in(status, &[1, 2]);
         let mut reader = writer;
-        assert_eq!(rt; number(&writer.write(0, &page(), 80)), refusal);
-        assert_eq!(rt; number(&reader.read(0, &page())), refusal);
+        assert_eq!(rt; number(&writer.write(&site(), 80)), refusal);
+        assert_eq!(rt; number(&reader.read(&site())), refusal);
         if refusal > 0 {
             assert!(rt; writer.status == status && reader.status == status);
             assert!(rt; writer.round == ROUND && reader.round == ROUND);
@@ -56,14 +56,8 @@ fn a_new_round_asks_all(rt: HostRuntime) {
     let mut writer = replica_in(Status::Idle, &[1, 2]);
     let mut reader = writer;
     let query = to_all(MessageKind::Query, ROUND + 1, Timestamp::BLANK, 0);
-    match writer.write(0, &page(), 80) {
-        Ok(sent) => assert!(rt; sent == query),
-        Err(_) => assert!(rt; false),
-    }
-    match reader.read(0, &page()) {
-        Ok(sent) => assert!(rt; sent == query),
-        Err(_) => assert!(rt; false),
-    }
+    assert_eq!(rt; writer.write(&site(), 80), Ok(query));
+    assert_eq!(rt; reader.read(&site()), Ok(query));
     assert!(rt; writer.status == Status::QueryingToWrite && writer.write_code == 80);
     assert!(rt; reader.status == Status::QueryingToRead);
     assert!(rt; writer.round == ROUND + 1 && reader.round == ROUND + 1);
@@ -86,8 +80,8 @@ fn an_operation_wants_two_rounds(rt: HostRuntime) {
         };
         let mut writer = idle;
         let mut reader = idle;
-        assert_eq!(rt; number(&writer.write(0, &page(), 80)), refusal);
-        assert_eq!(rt; number(&reader.read(0, &page())), refusal);
+        assert_eq!(rt; number(&writer.write(&site(), 80)), refusal);
+        assert_eq!(rt; number(&reader.read(&site())), refusal);
     }
 }
 
@@ -101,7 +95,7 @@ fn a_resend_repeats_the_round(rt: HostRuntime) {
         .zip([11, 20, 0, 0, 0, 0, 0])
         .zip(sent)
     {
-        match replica_in(status, &[1]).resend(0, &page()) {
+        match replica_in(status, &[1]).resend(&site()) {
             Ok(message) => assert!(rt; refusal == 0 && message == expected),
             Err(why) => assert_eq!(rt; why.number(), refusal),
         }

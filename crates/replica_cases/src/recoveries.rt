@@ -90,7 +90,7 @@ fn a_refused_store_says_its_task(rt: HostRuntime) -> Result<(), Fail> {
     let mut storage = storage_with(rt.alloc(), page(), 0)?;
     match Replica::new().recover(&mut storage, 0) {
         Err(ReplicaRefusal::Failed(fault)) => {
-            assert!(rt; fault.task == Task::Recovering);
+            assert_eq!(rt; fault.task, Some(Task::Recovering));
             assert_eq!(rt; fault.number(), 17);
             assert_eq!(rt; fault.layer(), 0);
             assert_eq!(rt; fault.replica(), 0);

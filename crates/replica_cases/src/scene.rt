@@ -1,6 +1,7 @@
 // A replica of three, number 0, in the middle of an operation, and what can be seen of an event there.
 use replica::{
-    Message, MessageKind, Outcome, Reaction, Replica, ReplicaFault, Sending, Status, Task, Ticket,
+    Message, MessageKind, Outcome, Reaction, Replica, ReplicaFault, Sending, Site, Status, Task,
+    Ticket,
 };
 use std::alloc::Global;
 use storage::stable::memory::MakeError;
@@ -22,6 +23,14 @@ pub fn page() -> Page {
         written_code: 50,
         intended_sequence: 2,
         intended_code: 20,
+    }
+}
+
+// Where replica 0 stands.
+pub fn site() -> Site {
+    Site {
+        own: 0,
+        page: page(),
     }
 }
 
@@ -64,7 +73,7 @@ pub fn message(kind: MessageKind, sender: u32, timestamp: Timestamp, code: u64) 
 }
 
 // What an event at a replica brought about.
-#[derive(Clone, Copy, PartialEq, Eq)]
+#[derive(Clone, Copy, PartialEq, Eq, Debug)]
 pub enum Seen {
     Nothing,
     // a response: its kind, timestamp and code, and whether a page was stored
@@ -74,7 +83,7 @@ pub enum Seen {
     Written(Timestamp),
     Read(Timestamp, u64),
     Recovered,
-    Fault(u8, Task),
+    Fault(u8, Option<Task>),
     // two things at once, or a message of the wrong sort
     Other,
 }
@@ -83,14 +92,14 @@ pub fn seen_in(answer: Result<Reaction, ReplicaFault>) -> Seen {
     match answer {
         Err(fault) => Seen::Fault(fault.number(), fault.task),
         Ok(reaction) => match reaction.sending {
-            Sending::Nothing => match reaction.outcome {
-                Outcome::Nothing => Seen::Nothing,
-                Outcome::Written(when) => Seen::Written(when),
-                Outcome::Read(when, code) => Seen::Read(when, code),
-                Outcome::Recovered => Seen::Recovered,
+            None => match reaction.outcome {
+                None => Seen::Nothing,
+                Some(Outcome::Written(when)) => Seen::Written(when),
+                Some(Outcome::Read(when, code)) => Seen::Read(when, code),
+                Some(Outcome::Recovered) => Seen::Recovered,
             },
-            Sending::One(m) => Seen::Replied(m.kind, m.timestamp, m.code, reaction.stored),
-            Sending::All(m) => match m.kind {
+            Some(Sending::One(m)) => Seen::Replied(m.kind, m.timestamp, m.code, reaction.stored),
+            Some(Sending::All(m)) => match m.kind {
                 MessageKind::Update => Seen::Updates(m.timestamp, m.code, reaction.stored),
                 _ => Seen::Other,
             },
