@@ -7,7 +7,6 @@ use Rattle.cluster.proofs.ReplicaCases as replica
 use Rattle.cluster.proofs.ReplicaCases.{Receipt, Recovery}
 use Rattle.cluster.proofs.Sending.{all_more}
 use Rattle.cluster.specs.Acts.{accepted, acted, broadcasted, dispatched}
-use Rattle.cluster.specs.Answers.{outcome_of}
 use Rattle.cluster.specs.Laws.{Balanced, taken_out, takes, total}
 use Rattle.cluster.specs.States.{Setup, State, place_at, with_effect}
 use Rattle.cluster.specs.Transits.{room_in}
@@ -18,11 +17,9 @@ use Rattle.replica.specs.Reactions.{updating}
 use Rattle.replica.specs.Receipts.{Received}
 use Rattle.replica.specs.Recoveries.{Comeback}
 use Rattle.replica.specs.declared.message.Message.{Message}
-use Rattle.replica.specs.declared.reaction.Outcome.{Outcome as ReplicaOutcome}
-use Rattle.replica.specs.declared.reaction.Outcome.TheVariants as outcome
 use Rattle.replica.specs.declared.reaction.Reaction.{Reaction}
 use Rattle.replica.specs.declared.reaction.Sending.{Sending}
-use Rattle.replica.specs.declared.reaction.Sending.TheVariants.{Nothing, One, All}
+use Rattle.replica.specs.declared.reaction.Sending.TheVariants.{One, All}
 use Rattle.replica.specs.declared.record.Replica.{Replica}
 use Rattle.std.proofs.lemmas.List.Edits.{length-remove}
 use Rattle.storage.specs.Faults.{no_replica, no_stores}
@@ -96,31 +93,25 @@ stores_taken u s i l (one k) =
     omega arith
 
 -- what is sent goes into transit, and no store is made for it
-dispatch_length : (n : ℕ) (s : State) (x : Sending) → length (dispatched n s x).0.transit ≡ length s.transit + (dispatched n s x).1.0
-dispatch_length n s Nothing = sym (add-zero _)
-dispatch_length n s (One m) = go (room_in s.transit)
+dispatch_length : (n : ℕ) (s : State) (x : Option Sending) → length (dispatched n s x).0.transit ≡ length s.transit + (dispatched n s x).1.0
+dispatch_length n s None = sym (add-zero _)
+dispatch_length n s (Some (One m)) = go (room_in s.transit)
   where
     go : (b : Bool) → length (cond b (s.transit ++ m ∷ []) s.transit) ≡ length s.transit + (cond {A = ℕ × ℕ} b (1, 0) (0, 1)).0
     go true = length-append s.transit (m ∷ [])
     go false = sym (add-zero _)
-dispatch_length n s (All m) = let more = all_more n s.transit m in omega arith
+dispatch_length n s (Some (All m)) = let more = all_more n s.transit m in omega arith
 
-dispatch_left : (n : ℕ) (s : State) (x : Sending) → (dispatched n s x).0.left ≡ s.left
-dispatch_left n s Nothing = refl
-dispatch_left n s (One m) = refl
-dispatch_left n s (All m) = refl
-
-reported-takes : (e : Event) (o : ReplicaOutcome) → taken_out e (outcome_of o) ≡ takes e
-reported-takes e outcome.Nothing = refl
-reported-takes e (outcome.Written t) = refl
-reported-takes e (outcome.Read t c) = refl
-reported-takes e outcome.Recovered = refl
+dispatch_left : (n : ℕ) (s : State) (x : Option Sending) → (dispatched n s x).0.left ≡ s.left
+dispatch_left n s None = refl
+dispatch_left n s (Some (One m)) = refl
+dispatch_left n s (Some (All m)) = refl
 
 module _ (u : Setup) (s : State) where
   -- a reaction is accepted in a state t from which the message is gone and in which the store is made
   reacts : (e : Event) (t : State) (a : Reaction) → length t.transit + takes e ≡ length s.transit → total t.left u.replicas + cond a.stored 1 0 ≡ total s.left u.replicas → Balanced u s (accepted u.replicas t a).0 e (accepted u.replicas t a).1
   reacts e t a p q = record {
-    transit = let sent = dispatch_length u.replicas t a.sending in let taken = reported-takes e a.outcome in omega arith;
+    transit = let sent = dispatch_length u.replicas t a.sending in omega arith;
     stores = rw (dispatch_left u.replicas t a.sending) q;
   }
 

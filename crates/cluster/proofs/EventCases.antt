@@ -4,8 +4,8 @@ use lib.Seq.{set-get_or}
 use Rattle.cluster.proofs.ReplicaCases as cases
 use Rattle.cluster.proofs.ReplicaCases.{Receipt, Recovery, receipt, recovers_as}
 use Rattle.cluster.proofs.StepCases.{Querying, Updating, a_read, a_write, recovering, to_read, to_write}
-use Rattle.cluster.specs.Acts.{Acted, accepted, acted, acting, answering, broadcasted, calling, comeback, crashing, placed, quiet, reacting, refusing, resending, tried_if}
-use Rattle.cluster.specs.Answers.{failed, refused}
+use Rattle.cluster.specs.Acts.{Acted, accepted, acted, acting, answering, broadcasted, calling, comeback, crashing, placed, reacting, refusing, resending, tried_if}
+use Rattle.cluster.specs.Answers.{failed, quiet, refused}
 use Rattle.cluster.specs.Fitness.{fitness}
 use Rattle.cluster.specs.States.{Setup, State, place_at, record_at, with_effect, with_record, with_transit}
 use Rattle.cluster.specs.Transits.{blank_record, no_message}

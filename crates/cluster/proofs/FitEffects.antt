@@ -11,7 +11,7 @@ use Rattle.replica.specs.Recoveries.{Comeback, raised}
 use Rattle.replica.specs.declared.message.Message.{Message}
 use Rattle.replica.specs.declared.reaction.Reaction.{Reaction}
 use Rattle.replica.specs.declared.reaction.Sending.{Sending}
-use Rattle.replica.specs.declared.reaction.Sending.TheVariants.{Nothing, One, All}
+use Rattle.replica.specs.declared.reaction.Sending.TheVariants.{One, All}
 use Rattle.replica.specs.declared.record.Replica.{Replica}
 use Rattle.std.proofs.lemmas.Bool.{and_from, and_parts}
 use Rattle.storage.specs.Timestamps.{blank_timestamp, later}
@@ -22,10 +22,10 @@ abbrev pub FitStore : ℕ → (ℕ → Bool) → Option Page → Type 0
 FitStore n valid None = Unit {0}
 FitStore n valid (Some p) = page_fits n valid p ≡ true
 
-abbrev pub FitSending : ℕ → (ℕ → Bool) → Sending → Type 0
-FitSending n valid Nothing = Unit {0}
-FitSending n valid (One m) = message_fits n valid m ≡ true
-FitSending n valid (All m) = message_fits n valid m ≡ true
+abbrev pub FitSending : ℕ → (ℕ → Bool) → Option Sending → Type 0
+FitSending n valid None = Unit {0}
+FitSending n valid (Some (One m)) = message_fits n valid m ≡ true
+FitSending n valid (Some (All m)) = message_fits n valid m ≡ true
 
 abbrev pub FitAnswer : {F : Type 0} → ℕ → (ℕ → Bool) → Result Reaction F → Type 0
 FitAnswer n valid (Ok a) = FitSending n valid a.sending

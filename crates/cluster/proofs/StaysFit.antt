@@ -88,10 +88,10 @@ module _ (u : Setup) (s : State) (fit : Fit u s) where
   without_fit : (p : ℕ) → Fit u (without s p)
   without_fit p = transit_fit _ (All-append (FitMessage u) (take p s.transit) (drop (suc p) s.transit) (All-take (FitMessage u) p s.transit fit.transit) (All-drop (FitMessage u) (suc p) s.transit fit.transit))
 
-  dispatch_fit : (x : Sending) → FitSending u.replicas u.valid x → Fit u (dispatched u.replicas s x).0
-  dispatch_fit sending.Nothing h = fit
-  dispatch_fit (sending.One m) h = transit_fit _ (room (FitMessage u) s.transit m h fit.transit)
-  dispatch_fit (sending.All m) h = transit_fit _ (all_sent (FitMessage u) u.replicas s.transit m (λ _. h) fit.transit)
+  dispatch_fit : (x : Option Sending) → FitSending u.replicas u.valid x → Fit u (dispatched u.replicas s x).0
+  dispatch_fit None h = fit
+  dispatch_fit (Some (sending.One m)) h = transit_fit _ (room (FitMessage u) s.transit m h fit.transit)
+  dispatch_fit (Some (sending.All m)) h = transit_fit _ (all_sent (FitMessage u) u.replicas s.transit m (λ _. h) fit.transit)
 
 -- an effect at replica i, and the reaction that it answers with
 reaction_fit : {F : Type 0} (u : Setup) (s : State) (i : ℕ) (x : Effect (Result Reaction F)) (a : Reaction) → Fit u s → FitEffect u.replicas u.valid x → x.answer ≡ Ok a → Fit u (accepted u.replicas (with_effect s i x) a).0
@@ -99,7 +99,7 @@ reaction_fit u s i x a fit h k = dispatch_fit u (with_effect s i x) (effect_fit 
 
 module _ (u : Setup) (s : State) (fit : Fit u s) where
   begin_fit : (st : Status) (i c : ℕ) → i < u.replicas → u.valid c ≡ true → Fit u (event.beginning u s st i c).0
-  begin_fit st i c l v = dispatch_fit u _ (record_set_fit u s fit i _ (and_from _ _ (blank_fit u s fit i l) v)) (sending.All _) (blank_fit u s fit i l)
+  begin_fit st i c l v = dispatch_fit u _ (record_set_fit u s fit i _ (and_from _ _ (blank_fit u s fit i l) v)) (Some (sending.All _)) (blank_fit u s fit i l)
 
   received_fit : (p : ℕ) {x : Received} → p < length s.transit → (message_in s p).receiver < u.replicas → Receipt u.enough (place_at u s (message_in s p).receiver) (record_at s (message_in s p).receiver) (message_in s p) x → FitEffect u.replicas u.valid x
   received_fit p l i h = receipt_fits u.replicas u.valid _ _ i fit.blank (page_fit u s fit _ i) (record_fit u s fit _ i) _ _ (message_fit u s fit p l) h
@@ -108,8 +108,8 @@ module _ (u : Setup) (s : State) (fit : Fit u s) where
   stays (event.refuses f) = fit
   stays (event.writes i c l v d o) = begin_fit _ i c l v
   stays (event.reads i l d o) = begin_fit _ i 0 l fit.blank
-  stays (event.resends_query i l q) = dispatch_fit u s fit (sending.All _) (blank_fit u s fit i l)
-  stays (event.resends_update i l q) = dispatch_fit u s fit (sending.All _) (best_fits u.replicas u.valid (record_at s i) (record_fit u s fit i l))
+  stays (event.resends_query i l q) = dispatch_fit u s fit (Some (sending.All _)) (blank_fit u s fit i l)
+  stays (event.resends_update i l q) = dispatch_fit u s fit (Some (sending.All _)) (best_fits u.replicas u.valid (record_at s i) (record_fit u s fit i l))
   stays (event.loses p l) = without_fit u s fit p
   stays (event.crashes i l d) = record_set_fit u s fit i _ (and_from _ _ (blank_fit u s fit i l) fit.blank)
   stays (event.comes_back i a {x} l h k) = reaction_fit u s i x a fit (recovery_fits u.replicas u.valid _ _ l fit.blank (page_fit u s fit i l) (record_fit u s fit i l) h) k

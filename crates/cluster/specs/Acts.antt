@@ -1,6 +1,6 @@
 -- What each event does to a cluster. Assumes nothing.
-use Rattle.std.specs.Prelude.{ℕ, ◌-◌, false, cond, length, Ok, Err, Result, nat_lt, slice_index_or}
-use Rattle.cluster.specs.Answers.{answered, failed, met, refused}
+use Rattle.std.specs.Prelude.{ℕ, ◌-◌, false, cond, length, Some, None, Ok, Err, Option, Result, nat_lt, slice_index_or}
+use Rattle.cluster.specs.Answers.{answered, failed, met, quiet, refused}
 use Rattle.cluster.specs.Fitness.{fitness}
 use Rattle.cluster.specs.States.{Setup, State, place_at, record_at, with_effect, with_record, with_transit}
 use Rattle.cluster.specs.Transits.{no_message, room_in, sent_count, sent_to_all, with_sent}
@@ -15,20 +15,24 @@ use Rattle.replica.specs.Receipts.{received}
 use Rattle.replica.specs.Recoveries.{recovered}
 use Rattle.replica.specs.declared.fault.ReplicaFault.{ReplicaFault}
 use Rattle.replica.specs.declared.message.Message.{Message}
-use Rattle.replica.specs.declared.reaction.Outcome.TheVariants as outcome
 use Rattle.replica.specs.declared.record.Replica.{Replica as Record}
 use Rattle.replica.specs.declared.record.Status.TheVariants as status
 use Rattle.replica.specs.declared.refusal.ReplicaRefusal.{ReplicaRefusal}
+use Rattle.replica.specs.declared.site.Site.{Site}
 use Rattle.std.specs.List.{remove}
 use Rattle.replica.specs.declared.reaction.Reaction.{Reaction}
 use Rattle.replica.specs.declared.reaction.Sending.{Sending}
-use Rattle.replica.specs.declared.reaction.Sending.TheVariants.{Nothing, One, All}
+use Rattle.replica.specs.declared.reaction.Sending.TheVariants.{One, All}
+
+-- where replica i stands, or that there is no such replica
+abbrev pub site_at : Setup → State → ℕ → Result Site Refusal
+site_at u s i = cond (nat_lt i u.replicas) (Ok (record { own = i; page = s.page i })) (Err NoSuchReplica)
 
 -- what a replica sends goes into transit; how many found room of n replicas, and how many did not
-abbrev pub dispatched : ℕ → State → Sending → State × (ℕ × ℕ)
-dispatched n s Nothing = (s, (0, 0))
-dispatched n s (One m) = (with_transit s (with_sent s.transit m), cond (room_in s.transit) (1, 0) (0, 1))
-dispatched n s (All m) = (with_transit s (sent_to_all n s.transit m), (sent_count n s.transit m, n - sent_count n s.transit m))
+abbrev pub dispatched : ℕ → State → Option Sending → State × (ℕ × ℕ)
+dispatched n s None = (s, (0, 0))
+dispatched n s (Some (One m)) = (with_transit s (with_sent s.transit m), cond (room_in s.transit) (1, 0) (0, 1))
+dispatched n s (Some (All m)) = (with_transit s (sent_to_all n s.transit m), (sent_count n s.transit m, n - sent_count n s.transit m))
 
 -- the reaction of a replica, as the answer to its event
 abbrev pub accepted : ℕ → State → Reaction → State × Answer
@@ -36,7 +40,7 @@ accepted n s r = ((dispatched n s r.sending).0, answered r.outcome (dispatched n
 
 -- a message to all, which is all that comes of an event
 abbrev pub broadcasted : ℕ → State → Message → State × Answer
-broadcasted n s m = ((dispatched n s (All m)).0, answered outcome.Nothing (dispatched n s (All m)).1.0 (dispatched n s (All m)).1.1 false)
+broadcasted n s m = ((dispatched n s (Some (All m))).0, answered None (dispatched n s (Some (All m))).1.0 (dispatched n s (Some (All m))).1.1 false)
 
 -- what an event answers, or why it was refused
 abbrev pub Acted : Type 0
@@ -72,10 +76,6 @@ resending u s (Err f) = refusing s (Replica f)
 -- replica i sends the present round's message again
 abbrev pub resent_by : Setup → State → ℕ → Acted
 resent_by u s i = cond (nat_lt i u.replicas) (resending u s (resent i (s.page i) (record_at s i))) (refusing s NoSuchReplica)
-
--- nothing is sent or stored
-abbrev pub quiet : Answer
-quiet = answered outcome.Nothing 0 0 false
 
 abbrev pub crashing : State → ℕ → Record × Result (Unit {0}) ReplicaRefusal → Acted
 crashing s i (r, Ok x) = (with_record s i r, Ok quiet)

@@ -1,12 +1,17 @@
 -- Which storages and quorum rules are fit for a register. Assumes nothing.
-use Rattle.std.specs.Prelude.{ℕ, zero, suc, ◌+◌, Bool, cond, ◌&&◌, ◌||◌, Some, None, Ok, Err, Option, Result, ◌==◌, nat_le, nat_lt}
+use Rattle.std.specs.Prelude.{ℕ, zero, suc, ◌+◌, Bool, cond, ◌&&◌, ◌||◌, is_some, Some, None, Ok, Err, Option, Result, ◌==◌, nat_le, nat_lt}
 use Rattle.cluster.specs.declared.refusal.Refusal.{Refusal}
 use Rattle.cluster.specs.declared.refusal.Refusal.TheVariants.{ReplicaCount, Unfit}
 use Rattle.replica.specs.declared.message.Message.{Message}
 use Rattle.replica.specs.declared.record.Replica.{Replica}
 use Rattle.storage.specs.Memories.{count_fits}
+use Rattle.storage.specs.declared.entry.Entry.{Ghosts as EntryOf}
 use Rattle.storage.specs.declared.page.Page.{Page}
 use Rattle.storage.specs.declared.timestamp.Timestamp.{Timestamp}
+
+-- whether a code is of a kind of entry
+abbrev pub of_kind : {E : Type 0} → EntryOf E → ℕ → Bool
+of_kind k code = is_some (k.decoded code)
 
 -- a sequence in its range with a code of the kind; at sequence 0 the code is 0
 abbrev pub code_fits : (ℕ → Bool) → ℕ → ℕ → Bool

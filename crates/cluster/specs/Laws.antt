@@ -1,12 +1,13 @@
 -- What events keep. Assumes nothing.
-use Rattle.std.specs.Prelude.{◌≡◌, ℕ, zero, suc, ◌+◌, true, length, All, Ok}
+use Rattle.std.specs.Prelude.{◌≡◌, ℕ, zero, suc, ◌+◌, true, length, All, Ok, Err, Option, Result}
 use Rattle.cluster.specs.Fitness.{fitness, message_fits, record_fits}
 use Rattle.cluster.specs.States.{Setup, State}
 use Rattle.cluster.specs.declared.answer.Answer.{Answer}
-use Rattle.cluster.specs.declared.answer.Outcome.{Outcome}
-use Rattle.cluster.specs.declared.answer.Outcome.TheVariants as outcome
+use Rattle.cluster.specs.declared.answer.Failure.{Failure}
+use Rattle.cluster.specs.declared.answer.Failure.TheVariants.{Fault, Refused}
 use Rattle.cluster.specs.declared.event.Event.{Event}
 use Rattle.cluster.specs.declared.event.Event.TheVariants.{Write, Read, Resend, Deliver, Lose, Crash, Recover}
+use Rattle.replica.specs.declared.reaction.Outcome.{Outcome}
 
 -- how many messages an event that is not refused takes out of transit
 abbrev pub takes : Event → ℕ
@@ -19,13 +20,10 @@ takes (Crash i) = 0
 takes (Recover i) = 0
 
 -- how many messages an event with this outcome took out of transit
-abbrev pub taken_out : Event → Outcome → ℕ
-taken_out e outcome.Nothing = takes e
-taken_out e (outcome.Written t) = takes e
-taken_out e (outcome.Read t c) = takes e
-taken_out e outcome.Recovered = takes e
-taken_out e (outcome.Fault f) = takes e
-taken_out e (outcome.Refused r) = 0
+abbrev pub taken_out : Event → Result (Option Outcome) Failure → ℕ
+taken_out e (Ok o) = takes e
+taken_out e (Err (Fault f)) = takes e
+taken_out e (Err (Refused r)) = 0
 
 -- the sum of f over the numbers below n
 abbrev pub total : (ℕ → ℕ) → ℕ → ℕ

@@ -1,12 +1,16 @@
 -- The state of a cluster, and what stays the same in it. Assumes nothing.
-use Rattle.std.specs.Prelude.{◌≡◌, ℕ, Bool, List, [], replicate, is_some, vec_items, Option, slice_index_or, slice_set}
+use Rattle.std.specs.Prelude.{◌≡◌, ℕ, Bool, List, [], replicate, vec_items, slice_index_or, slice_set}
+use Rattle.cluster.specs.Fitness.{of_kind}
 use Rattle.cluster.specs.Transits.{blank_record}
 use Rattle.cluster.specs.declared.cluster.Cluster.{Cluster}
 use Rattle.replica.specs.Effects.{Effect, Place, left_after, pages_after}
 use Rattle.replica.specs.Records.{down}
 use Rattle.replica.specs.declared.message.Message.{Message}
 use Rattle.replica.specs.declared.record.Replica.{Replica}
+use Rattle.storage.specs.declared.entry.Entry.{Ghosts as EntryOf}
 use Rattle.storage.specs.declared.page.Page.{Page}
+use Rattle.storage.specs.declared.quorum.Quorum.{Ghosts as QuorumOf}
+use Rattle.storage.specs.declared.stable.Storage.{Ghosts as StorageOf}
 
 -- what events change: the pages and the stores left, the records of the replicas, the messages in transit
 pub record State : Type 0 where
@@ -23,17 +27,18 @@ pub record Setup : Type 0 where
   pub layer : ℕ → ℕ
   pub valid : ℕ → Bool
 
+-- the meanings of a storage, a quorum rule and a kind of entry are those that their bounds name
 module _ {S Q E : Type 0} where
-  abbrev pub state_of : (S → ℕ → Page) → (S → ℕ → ℕ) → Cluster S Q E → State
-  state_of page left c = record { page = page c.storage; left = left c.storage; records = c.table.replicas; transit = vec_items c.table.transit }
+  abbrev pub state_of : StorageOf S → Cluster S Q E → State
+  state_of m c = record { page = m.page c.storage; left = m.left c.storage; records = c.table.replicas; transit = vec_items c.table.transit }
 
-  abbrev pub setup_of : (S → ℕ) → (S → ℕ → ℕ) → (Q → ℕ) → (Q → (ℕ → Bool) → Bool) → (ℕ → Option E) → Cluster S Q E → Setup
-  setup_of replicas layer size enough decoded c = record { replicas = replicas c.storage; size = size c.quorum; enough = enough c.quorum; layer = layer c.storage; valid = λ code. is_some (decoded code) }
+  abbrev pub setup_of : StorageOf S → QuorumOf Q → EntryOf E → Cluster S Q E → Setup
+  setup_of m q k c = record { replicas = m.replicas c.storage; size = q.size c.quorum; enough = q.enough c.quorum; layer = m.layer c.storage; valid = of_kind k }
 
   -- a call on c did what the rule f says: d is left, and a answered
-  pub record Does {A : Type 0} (page : S → ℕ → Page) (left layer : S → ℕ → ℕ) (replicas : S → ℕ) (size : Q → ℕ) (enough : Q → (ℕ → Bool) → Bool) (decoded : ℕ → Option E) (f : Setup → State → State × A) (c d : Cluster S Q E) (a : A) : Type 0 where
-    pub after : f (setup_of replicas layer size enough decoded c) (state_of page left c) ≡ (state_of page left d, a)
-    pub setup : setup_of replicas layer size enough decoded d ≡ setup_of replicas layer size enough decoded c
+  pub record Does {A : Type 0} (m : StorageOf S) (q : QuorumOf Q) (k : EntryOf E) (f : Setup → State → State × A) (c d : Cluster S Q E) (a : A) : Type 0 where
+    pub after : f (setup_of m q k c) (state_of m c) ≡ (state_of m d, a)
+    pub setup : setup_of m q k d ≡ setup_of m q k c
 
 -- the record of replica i
 abbrev pub record_at : State → ℕ → Replica

@@ -3,11 +3,10 @@ ghost use Rattle.std.specs.Prelude.{◌≡◌};
 ghost use Rattle.cluster.specs.Answers.{answered, failed, met, refused};
 
 use crate::refusal::Refusal;
-use replica::ReplicaFault;
-use storage::Timestamp;
+use replica::{Outcome, ReplicaFault};
 
 // A replica's fault, and where in a list of events it came: 0 for a single event.
-#[derive(Clone, Copy)]
+#[derive(Clone, Copy, PartialEq, Eq, Debug)]
 pub struct ClusterFault {
     pub replica: ReplicaFault,
     pub place: usize,
@@ -21,19 +20,19 @@ impl From<ReplicaFault> for ClusterFault {
     }
 }
 
-#[derive(Clone, Copy)]
-pub enum Outcome {
-    Nothing,
-    Written(Timestamp),
-    Read(Timestamp, u64),
-    Recovered,
+// Why an event came to nothing.
+#[derive(Clone, Copy, PartialEq, Eq, Debug)]
+pub enum Failure {
+    // it took place, and ended with a fault
     Fault(ClusterFault),
+    // it was refused, and nothing has changed
     Refused(Refusal),
 }
 
-#[derive(Clone, Copy)]
+#[derive(Clone, Copy, PartialEq, Eq, Debug)]
 pub struct Answer {
-    pub outcome: Outcome,
+    // what was finished, if anything was
+    pub outcome: Result<Option<Outcome>, Failure>,
     // messages that found room in transit, and that did not
     pub sent: usize,
     pub dropped: usize,
@@ -42,38 +41,21 @@ pub struct Answer {
 }
 
 impl Answer {
+    // Nothing was finished, sent or stored.
+    pub(crate) const QUIET: Answer = Answer {
+        outcome: Ok(None),
+        sent: 0,
+        dropped: 0,
+        stored: 0,
+    };
+
     // A refused event has sent, dropped and stored nothing.
     pub(crate) fn refused(refusal: Refusal) -> Answer
         ensures { result ≡ refused refusal }
     {
         Answer {
-            outcome: Outcome::Refused(refusal),
-            sent: 0,
-            dropped: 0,
-            stored: 0,
-        }
-    }
-
-    // What a replica reports, with the messages counted.
-    pub(crate) fn of(
-        reported: replica::Outcome,
-        sent: usize,
-        dropped: usize,
-        stored: bool,
-    ) -> Answer
-        ensures { result ≡ answered reported sent dropped stored }
-    {
-        let outcome = match reported {
-            replica::Outcome::Nothing => Outcome::Nothing,
-            replica::Outcome::Written(when) => Outcome::Written(when),
-            replica::Outcome::Read(when, code) => Outcome::Read(when, code),
-            replica::Outcome::Recovered => Outcome::Recovered,
-        };
-        Answer {
-            outcome,
-            sent,
-            dropped,
-            stored: stored as usize,
+            outcome: Err(Failure::Refused(refusal)),
+            ..Answer::QUIET
         }
     }
 
@@ -82,10 +64,20 @@ impl Answer {
         ensures { result ≡ failed place replica }
     {
         Answer {
-            outcome: Outcome::Fault(ClusterFault { replica, place }),
-            sent: 0,
-            dropped: 0,
-            stored: 0,
+            outcome: Err(Failure::Fault(ClusterFault { replica, place })),
+            ..Answer::QUIET
+        }
+    }
+
+    // What a replica finished, with the messages counted.
+    pub(crate) fn of(finished: Option<Outcome>, sent: usize, dropped: usize, stored: bool) -> Answer
+        ensures { result ≡ answered finished sent dropped stored }
+    {
+        Answer {
+            outcome: Ok(finished),
+            sent,
+            dropped,
+            stored: usize::from(stored),
         }
     }
 }

@@ -1,5 +1,5 @@
 // What may happen in a cluster.
-#[derive(Clone, Copy)]
+#[derive(Clone, Copy, PartialEq, Eq, Debug)]
 pub enum Event {
     // a replica begins to write the entry of a code
     Write { replica: usize, code: u64 },

@@ -1,20 +1,17 @@
 // Whether a storage and a quorum rule are fit for a register of a kind of entry.
-ghost use Rattle.std.specs.Prelude.{◌≡◌, is_some};
-ghost use Rattle.cluster.specs.Fitness.{code_fits, fitness, lowest_unfit, page_fits};
+ghost use Rattle.std.specs.Prelude.{◌≡◌};
+ghost use Rattle.cluster.specs.Fitness.{code_fits, fitness, lowest_unfit, of_kind, page_fits};
 
 use crate::refusal::Refusal;
+use replica::Replica;
 use storage::{Entry, Page, Quorum, Storage, Timestamp};
-
-// A register uses the incarnations 0 to 9,999.
-const LAST_INCARNATION: u32 = 9_999;
 
 // Refused with 5 or 6 where they are not.
 pub(crate) fn check_fitness<S: Storage, Q: Quorum, E: Entry>(
     storage: &S,
     quorum: &Q,
-    _kind: &E,
 ) -> Result<(), Refusal>
-    ensures { result ≡ fitness (S.replicas storage.now) (Q.size quorum.now) (λ c. is_some (E.decoded c)) (S.page storage.now) }
+    ensures { result ≡ fitness (S.replicas storage.now) (Q.size quorum.now) (of_kind E.Entry) (S.page storage.now) }
 {
     let n = storage.replicas();
     if n < 1 || n > 15 || n != quorum.replicas() {
@@ -29,7 +26,7 @@ pub(crate) fn check_fitness<S: Storage, Q: Quorum, E: Entry>(
 // The lowest replica below n whose page is unfit.
 fn unfit_replica<S: Storage, E: Entry>(storage: &S, n: usize) -> Option<usize>
     requires { n ≡ S.replicas storage.now }
-    ensures { result ≡ lowest_unfit n (λ c. is_some (E.decoded c)) (S.page storage.now) 0 n }
+    ensures { result ≡ lowest_unfit n (of_kind E.Entry) (S.page storage.now) 0 n }
 {
     for i in 0..n {
         match storage.page(i) {
@@ -46,10 +43,10 @@ fn unfit_replica<S: Storage, E: Entry>(storage: &S, n: usize) -> Option<usize>
 
 // Whether a page of a register of n replicas holds what such a register can have stored.
 fn page_fits<E: Entry>(n: usize, page: &Page) -> bool
-    ensures { result ≡ page_fits n (λ c. is_some (E.decoded c)) page.now }
+    ensures { result ≡ page_fits n (of_kind E.Entry) page.now }
 {
     let written = page.written;
-    page.incarnation <= LAST_INCARNATION
+    page.incarnation <= Replica::LAST_INCARNATION
         && (written.replica as usize) < n
         && code_fits::<E>(written.sequence, page.written_code)
         && (written.sequence > 0 || written.replica == 0)
@@ -58,7 +55,7 @@ fn page_fits<E: Entry>(n: usize, page: &Page) -> bool
 
 // Whether a sequence is in its range and a code of the kind; at sequence 0 the code is 0.
 fn code_fits<E: Entry>(sequence: u32, code: u64) -> bool
-    ensures { result ≡ code_fits (λ c. is_some (E.decoded c)) sequence code }
+    ensures { result ≡ code_fits (of_kind E.Entry) sequence code }
 {
     sequence <= Timestamp::LAST_SEQUENCE && E::decode(code).is_some() && (sequence > 0 || code == 0)
 }

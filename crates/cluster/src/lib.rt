@@ -8,7 +8,7 @@ mod fitness;
 pub mod refusal;
 pub mod table;
 
-pub use answer::{Answer, ClusterFault, Outcome};
+pub use answer::{Answer, ClusterFault, Failure};
 pub use cluster::Cluster;
 pub use cluster::making::NoMemory;
 pub use event::Event;

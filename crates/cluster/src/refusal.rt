@@ -5,7 +5,7 @@ ghost use Rattle.cluster.specs.declared.refusal.Refusal.TheVariants.{Replica};
 
 use replica::ReplicaRefusal;
 
-#[derive(Clone, Copy)]
+#[derive(Clone, Copy, PartialEq, Eq, Debug)]
 pub enum Refusal {
     // the storage's number of replicas is not 1 to 15, or not the quorum's
     ReplicaCount,

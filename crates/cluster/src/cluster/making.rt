@@ -1,6 +1,6 @@
 // Making a cluster, and taking it apart.
-ghost use Rattle.std.specs.Prelude.{◌≡◌, is_some, IfOk, Ok, MatchResult};
-ghost use Rattle.cluster.specs.Fitness.{fitness};
+ghost use Rattle.std.specs.Prelude.{◌≡◌, IfOk, Ok, MatchResult};
+ghost use Rattle.cluster.specs.Fitness.{fitness, of_kind};
 ghost use Rattle.cluster.specs.Laws.{Fit};
 ghost use Rattle.cluster.specs.States.{begins, setup_of, state_of};
 
@@ -20,8 +20,8 @@ impl<S: Storage, Q: Quorum, E: Entry> Cluster<S, Q, E> {
     // All replicas are down and nothing is in transit. Only want of memory refuses it, and gives
     // storage and quorum back. Over a fit storage and quorum the cluster is fit.
     pub fn new(heap: Global, storage: S, quorum: Q) -> Result<Cluster<S, Q, E>, NoMemory<S, Q>>
-        ensures cases { MatchResult result (λ c. (c.storage ≡ storage) × (c.quorum ≡ quorum) × (c.blank ≡ E.blank) × (state_of S.page S.left c ≡ begins (S.page storage) (S.left storage))) (λ e. (e.storage ≡ storage) × (e.quorum ≡ quorum)) }
-        ensures fit { IfOk result (λ c. (fitness (S.replicas storage) (Q.size quorum) (λ code. is_some (E.decoded code)) (S.page storage) ≡ Ok tt → Fit (setup_of S.replicas S.layer Q.size Q.enough E.decoded c) (state_of S.page S.left c))) }
+        ensures cases { MatchResult result (λ c. (c.storage ≡ storage) × (c.quorum ≡ quorum) × (c.blank ≡ E.blank) × (state_of S.Storage c ≡ begins (S.page storage) (S.left storage))) (λ e. (e.storage ≡ storage) × (e.quorum ≡ quorum)) }
+        ensures fit { IfOk result (λ c. (fitness (S.replicas storage) (Q.size quorum) (of_kind E.Entry) (S.page storage) ≡ Ok tt → Fit (setup_of S.Storage Q.Quorum E.Entry c) (state_of S.Storage c))) }
     {
         match Table::new(heap) {
             Ok(table) => Ok(Cluster {

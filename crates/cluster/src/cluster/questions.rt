@@ -12,17 +12,17 @@ use storage::{Entry, Quorum, Storage};
 impl<S: Storage, Q: Quorum, E: Entry> Cluster<S, Q, E> {
     // How many messages are in transit.
     pub fn in_transit(&self) -> Result<usize, Refusal>
-        ensures { result ≡ counted (setup_of S.replicas S.layer Q.size Q.enough E.decoded self.now) (state_of S.page S.left self.now) }
+        ensures { result ≡ counted (setup_of S.Storage Q.Quorum E.Entry self.now) (state_of S.Storage self.now) }
     {
-        check_fitness(&self.storage, &self.quorum, &self.blank)?;
+        check_fitness::<S, Q, E>(&self.storage, &self.quorum)?;
         Ok(self.table.count())
     }
 
     // The message at a place.
     pub fn message(&self, place: usize) -> Result<Message, Refusal>
-        ensures { result ≡ message_at (setup_of S.replicas S.layer Q.size Q.enough E.decoded self.now) (state_of S.page S.left self.now) place }
+        ensures { result ≡ message_at (setup_of S.Storage Q.Quorum E.Entry self.now) (state_of S.Storage self.now) place }
     {
-        check_fitness(&self.storage, &self.quorum, &self.blank)?;
+        check_fitness::<S, Q, E>(&self.storage, &self.quorum)?;
         if place >= self.table.count() {
             return Err(Refusal::NoMessage);
         }
@@ -31,9 +31,9 @@ impl<S: Storage, Q: Quorum, E: Entry> Cluster<S, Q, E> {
 
     // The status of a replica.
     pub fn status(&self, i: usize) -> Result<Status, Refusal>
-        ensures { result ≡ status_of (setup_of S.replicas S.layer Q.size Q.enough E.decoded self.now) (state_of S.page S.left self.now) i }
+        ensures { result ≡ status_of (setup_of S.Storage Q.Quorum E.Entry self.now) (state_of S.Storage self.now) i }
     {
-        check_fitness(&self.storage, &self.quorum, &self.blank)?;
+        check_fitness::<S, Q, E>(&self.storage, &self.quorum)?;
         if i >= self.storage.replicas() {
             return Err(Refusal::NoSuchReplica);
         }
@@ -42,9 +42,9 @@ impl<S: Storage, Q: Quorum, E: Entry> Cluster<S, Q, E> {
 
     // The newest message in transit to a replica, or none.
     pub fn newest_to(&self, i: usize) -> Result<Option<Message>, Refusal>
-        ensures { result ≡ newest_to (setup_of S.replicas S.layer Q.size Q.enough E.decoded self.now) (state_of S.page S.left self.now) i }
+        ensures { result ≡ newest_to (setup_of S.Storage Q.Quorum E.Entry self.now) (state_of S.Storage self.now) i }
     {
-        check_fitness(&self.storage, &self.quorum, &self.blank)?;
+        check_fitness::<S, Q, E>(&self.storage, &self.quorum)?;
         if i >= self.storage.replicas() {
             return Err(Refusal::NoSuchReplica);
         }

@@ -16,9 +16,9 @@ impl<S: Storage, Q: Quorum, E: Entry> Cluster<S, Q, E> {
     // spare answers stay as they were. With fewer answers than events nothing runs. A fit cluster
     // stays fit.
     pub fn run(&mut self, events: &[Event], answers: &mut [Answer]) -> Result<(), Refusal>
-        ensures cases { MatchResult result (λ _. (length events.now ≤ length answers.old) × (state_of S.page S.left self.new ≡ ran 0 (setup_of S.replicas S.layer Q.size Q.enough E.decoded self.old) (state_of S.page S.left self.old) events.now) × (answers.new ≡ answers_of 0 (setup_of S.replicas S.layer Q.size Q.enough E.decoded self.old) (state_of S.page S.left self.old) events.now ++ drop (length events.now) answers.old)) (λ e. (e ≡ ShortAnswers) × (length answers.old < length events.now) × (self.new ≡ self.old) × (answers.new ≡ answers.old)) }
-        ensures setup { setup_of S.replicas S.layer Q.size Q.enough E.decoded self.new ≡ setup_of S.replicas S.layer Q.size Q.enough E.decoded self.old }
-        ensures fit { Fit (setup_of S.replicas S.layer Q.size Q.enough E.decoded self.old) (state_of S.page S.left self.old) → Fit (setup_of S.replicas S.layer Q.size Q.enough E.decoded self.new) (state_of S.page S.left self.new) }
+        ensures cases { MatchResult result (λ _. (length events.now ≤ length answers.old) × (state_of S.Storage self.new ≡ ran 0 (setup_of S.Storage Q.Quorum E.Entry self.old) (state_of S.Storage self.old) events.now) × (answers.new ≡ answers_of 0 (setup_of S.Storage Q.Quorum E.Entry self.old) (state_of S.Storage self.old) events.now ++ drop (length events.now) answers.old)) (λ e. (e ≡ ShortAnswers) × (length answers.old < length events.now) × (self.new ≡ self.old) × (answers.new ≡ answers.old)) }
+        ensures setup { setup_of S.Storage Q.Quorum E.Entry self.new ≡ setup_of S.Storage Q.Quorum E.Entry self.old }
+        ensures fit { Fit (setup_of S.Storage Q.Quorum E.Entry self.old) (state_of S.Storage self.old) → Fit (setup_of S.Storage Q.Quorum E.Entry self.new) (state_of S.Storage self.new) }
     {
         if answers.len() < events.len() {
             return Err(Refusal::ShortAnswers);
