@@ -1,6 +1,6 @@
 // Faults, whole: number, replica, refusing layer, task, and the place in the list.
 use crate::runs::outcome_of;
-use cluster::{Answer, Cluster, Event, Outcome, Refusal};
+use cluster::{Answer, Cluster, Event, Failure, Refusal};
 use replica::{ReplicaFault, ReplicaRefusal, Task};
 use std::alloc::Global;
 use std::process::Abort;
@@ -13,14 +13,9 @@ type Register = Cluster<QuotaStorage<MemoryStorage>, Majority, Span>;
 fn register(heap: Global, page: Page, stores: u32, quota: u32) -> Result<Register, Fail> {
     let mut memory = MemoryStorage::blank(heap, 1, stores.saturating_add(1))?;
     memory.store(0, page)?;
-    match Cluster::new(
-        heap,
-        QuotaStorage::over(memory, &[quota]),
-        Majority::new(1)?,
-    ) {
-        Ok(register) => Ok(register),
-        Err(_) => Err(Fail::new("no memory")),
-    }
+    let majority = Majority::new(1)?;
+    Cluster::new(heap, QuotaStorage::over(memory, &[quota]), majority)
+        .map_err(|_| Fail::new("no memory"))
 }
 
 // A list of events after which a write ends; the last answer, if all before it were accepted.
@@ -46,7 +41,7 @@ fn last_of_write(rt: &impl Abort, register: &mut Register) -> Answer {
 
 fn fault_of(answer: &Answer) -> Result<(ReplicaFault, usize), Fail> {
     match answer.outcome {
-        Outcome::Fault(fault) => Ok((fault.replica, fault.place)),
+        Err(Failure::Fault(fault)) => Ok((fault.replica, fault.place)),
         _ => Err(Fail::new("no fault")),
     }
 }
@@ -62,10 +57,10 @@ fn an_intention_is_refused_by_the_layer_that_is_empty(rt: HostRuntime) -> Result
             (fault.number(), fault.replica(), fault.layer()),
             (17, 0, layer)
         );
-        assert!(rt; fault.task == Task::NotingIntention);
+        assert_eq!(rt; fault.task, Some(Task::NotingIntention));
         assert_eq!(rt; place, 3);
         assert_eq!(rt; (answer.sent, answer.dropped, answer.stored), (0, 0, 0));
-        assert_eq!(rt; register.in_transit().is_ok(), true);
+        assert!(rt; register.in_transit().is_ok());
     }
     Ok(())
 }
@@ -87,7 +82,7 @@ fn the_last_sequence_has_no_next(rt: HostRuntime) -> Result<(), Fail> {
         if letter == b'f' {
             let (fault, place) = fault_of(&answer)?;
             assert_eq!(rt; (fault.replica(), fault.layer(), place), (0, 0, 3));
-            assert!(rt; fault.task == Task::NotingIntention);
+            assert_eq!(rt; fault.task, Some(Task::NotingIntention));
         }
     }
     Ok(())
@@ -103,15 +98,17 @@ fn recovery_is_refused_for_incarnations_before_stores(rt: HostRuntime) -> Result
         let mut register = register(rt.alloc(), page, stores, 9)?;
         let answer = register.act(&Event::Recover { replica: 0 });
         match answer.outcome {
-            Outcome::Refused(refusal) => assert_eq!(rt; refusal.number(), number),
+            Err(Failure::Refused(refusal)) => assert_eq!(rt; refusal.number(), number),
             _ => assert_eq!(rt; number, 0),
         }
-        if let Outcome::Refused(Refusal::Replica(ReplicaRefusal::Failed(fault))) = answer.outcome {
+        if let Err(Failure::Refused(Refusal::Replica(ReplicaRefusal::Failed(fault)))) =
+            answer.outcome
+        {
             assert_eq!(rt;
                 (fault.number(), fault.replica(), fault.layer()),
                 (17, 0, 1)
             );
-            assert!(rt; fault.task == Task::Recovering);
+            assert_eq!(rt; fault.task, Some(Task::Recovering));
         }
     }
     Ok(())

@@ -3,7 +3,7 @@ use crate::runs::outcome_of;
 use cluster::{Cluster, Event, Refusal};
 use replica::{MessageKind, Status};
 use std::test::Fail;
-use storage::{Entry, Majority, MemoryStorage, Span};
+use storage::{Majority, MemoryStorage, Span};
 
 fn number_of<T: Drop>(res: Result<T, Refusal>) -> u8 {
     match res {
@@ -15,13 +15,9 @@ fn number_of<T: Drop>(res: Result<T, Refusal>) -> u8 {
 #[test]
 fn messages_and_statuses_are_answered(rt: HostRuntime) -> Result<(), Fail> {
     let storage = MemoryStorage::blank(rt.alloc(), 2, 9)?;
-    let Ok(mut register) = Cluster::<MemoryStorage, Majority, Span>::new(
-        rt.alloc(),
-        storage,
-        Majority::new(2)?,
-    ) else {
-        return Err(Fail::new("no memory"));
-    };
+    let majority = Majority::new(2)?;
+    let mut register = Cluster::<_, _, Span>::new(rt.alloc(), storage, majority)
+        .map_err(|_| Fail::new("no memory"))?;
     for event in [
         Event::Recover { replica: 1 },
         Event::Read { replica: 1 },
@@ -45,12 +41,8 @@ fn messages_and_statuses_are_answered(rt: HostRuntime) -> Result<(), Fail> {
         }
         _ => assert!(rt; false),
     }
-    match (register.status(0), register.status(1)) {
-        (Ok(down), Ok(reading)) => assert!(rt;
-            down == Status::Down && reading == Status::QueryingToRead
-        ),
-        _ => assert!(rt; false),
-    }
+    assert_eq!(rt; register.status(0), Ok(Status::Down));
+    assert_eq!(rt; register.status(1), Ok(Status::QueryingToRead));
     assert_eq!(rt; number_of(register.message(2)), 14);
     assert_eq!(rt; number_of(register.status(2)), 8);
     assert_eq!(rt; number_of(register.newest_to(2)), 8);
@@ -59,9 +51,6 @@ fn messages_and_statuses_are_answered(rt: HostRuntime) -> Result<(), Fail> {
     let events = [Event::Lose { place: 0 }, Event::Lose { place: 0 }];
     assert_eq!(rt; number_of(register.run(&events, &mut answers)), 7);
     assert_eq!(rt; outcome_of(&answers[0]), (b'x', 14));
-    match register.in_transit() {
-        Ok(count) => assert_eq!(rt; count, 2),
-        Err(_) => assert!(rt; false),
-    }
+    assert_eq!(rt; register.in_transit(), Ok(2));
     Ok(())
 }

@@ -7,13 +7,9 @@ use storage::{Bid, Entry, Majority, MemoryStorage, Page, Storage};
 #[test]
 fn a_new_cluster_refuses_in_order(rt: HostRuntime) -> Result<(), Fail> {
     let storage = MemoryStorage::blank(rt.alloc(), 2, 0)?;
-    let Ok(mut register) = Cluster::<MemoryStorage, Majority, Bid>::new(
-        rt.alloc(),
-        storage,
-        Majority::new(2)?,
-    ) else {
-        return Err(Fail::new("no memory"));
-    };
+    let majority = Majority::new(2)?;
+    let mut register = Cluster::<_, _, Bid>::new(rt.alloc(), storage, majority)
+        .map_err(|_| Fail::new("no memory"))?;
     let table = [
         (
             Event::Write {
@@ -67,13 +63,9 @@ fn an_unfit_cluster_refuses_everything(rt: HostRuntime) -> Result<(), Fail> {
     for (n, quorum, page, number) in [(2, 3, unfit, 5), (2, 2, unfit, 6), (2, 2, Page::BLANK, 8)] {
         let mut storage = MemoryStorage::blank(rt.alloc(), n, 5)?;
         storage.store(1, page)?;
-        let Ok(mut register) = Cluster::<MemoryStorage, Majority, Bid>::new(
-            rt.alloc(),
-            storage,
-            Majority::new(quorum)?,
-        ) else {
-            return Err(Fail::new("no memory"));
-        };
+        let majority = Majority::new(quorum)?;
+        let mut register = Cluster::<_, _, Bid>::new(rt.alloc(), storage, majority)
+            .map_err(|_| Fail::new("no memory"))?;
         assert_eq!(rt;
             outcome_of(&register.act(&Event::Read { replica: 9 })),
             (b'x', number)

@@ -1,17 +1,18 @@
 // Whole runs, event by event and as a list.
-use cluster::{Answer, Cluster, Event, Outcome};
+use cluster::{Answer, Cluster, Event, Failure};
+use replica::Outcome;
 use std::test::Fail;
-use storage::{Entry, Majority, MemoryStorage, Span};
+use storage::{Majority, MemoryStorage, Span};
 
 // The letter of an outcome and its number: the sequence written, the code read, or why.
 pub fn outcome_of(answer: &Answer) -> (u8, u64) {
     match answer.outcome {
-        Outcome::Nothing => (b'-', 0),
-        Outcome::Written(when) => (b'w', u64::from(when.sequence)),
-        Outcome::Read(_, code) => (b'r', code),
-        Outcome::Recovered => (b'b', 0),
-        Outcome::Fault(fault) => (b'f', u64::from(fault.replica.number())),
-        Outcome::Refused(refusal) => (b'x', u64::from(refusal.number())),
+        Ok(None) => (b'-', 0),
+        Ok(Some(Outcome::Written(when))) => (b'w', u64::from(when.sequence)),
+        Ok(Some(Outcome::Read(_, code))) => (b'r', code),
+        Ok(Some(Outcome::Recovered)) => (b'b', 0),
+        Err(Failure::Fault(fault)) => (b'f', u64::from(fault.replica.number())),
+        Err(Failure::Refused(refusal)) => (b'x', u64::from(refusal.number())),
     }
 }
 
@@ -45,13 +46,9 @@ const SCRIPT: [(Event, (u8, u64), usize, usize, usize); 12] = [
 #[test]
 fn one_replica_writes_and_reads(rt: HostRuntime) -> Result<(), Fail> {
     let storage = MemoryStorage::blank(rt.alloc(), 1, 10)?;
-    let Ok(mut register) = Cluster::<MemoryStorage, Majority, Span>::new(
-        rt.alloc(),
-        storage,
-        Majority::new(1)?,
-    ) else {
-        return Err(Fail::new("no memory"));
-    };
+    let majority = Majority::new(1)?;
+    let mut register = Cluster::<_, _, Span>::new(rt.alloc(), storage, majority)
+        .map_err(|_| Fail::new("no memory"))?;
     for (event, outcome, sent, stored, transit) in SCRIPT {
         let answer = register.act(&event);
         assert_eq!(rt; outcome_of(&answer), outcome);
@@ -59,10 +56,7 @@ fn one_replica_writes_and_reads(rt: HostRuntime) -> Result<(), Fail> {
             (answer.sent, answer.dropped, answer.stored),
             (sent, 0, stored)
         );
-        match register.in_transit() {
-            Ok(count) => assert_eq!(rt; count, transit),
-            Err(_) => assert!(rt; false),
-        }
+        assert_eq!(rt; register.in_transit(), Ok(transit));
     }
     Ok(())
 }

@@ -4,7 +4,7 @@ ghost use Rattle.replica.specs.Records.{opened};
 
 use storage::{ReplicaSet, Timestamp};
 
-#[derive(Clone, Copy, PartialEq, Eq)]
+#[derive(Clone, Copy, PartialEq, Eq, Debug)]
 pub enum Status {
     Down,
     Idle,
