@@ -2,12 +2,14 @@
 use Rattle.std.proofs.Common.{◌≡◌, ℕ, ◌≤◌, List, length, replicate, is_some, Ok, vec_items, vec_len, Option, ap, ◌∙◌, arith}
 use native.Mathlib.Decide.{dec_le}
 use lib.ListN.{length-replicate}
+use Rattle.cluster.specs.Fitness.{of_kind}
 use Rattle.cluster.specs.States.{begins}
 use Rattle.cluster.specs.declared.cluster.Cluster.{Cluster}
 use Rattle.rehearsal.specs.Rehearsals.{register_setup, register_state, table_setup, table_state}
 use Rattle.storage.specs.Memories.{blank_cell, left_at, page_at}
 use Rattle.storage.specs.Quorums.{majority_of, replicas_within}
 use Rattle.storage.specs.Weights.{most}
+use Rattle.storage.specs.declared.entry.Entry.{Ghosts as EntryOf}
 use Rattle.storage.specs.declared.quorum.majority.Majority.{Majority}
 use Rattle.storage.specs.declared.stable.memory.Cell.{Cell}
 use Rattle.storage.specs.declared.stable.memory.MemoryStorage.{MemoryStorage}
@@ -21,14 +23,14 @@ majority_size n q e = go (dec_le 1 n) (dec_le n 15) e
     go (yes l) (no m) k = let z : ◌≡◌ {A = ℕ} 0 1 = cc in absurd (omega arith)
     go (no l) m k = let z : ◌≡◌ {A = ℕ} 0 1 = cc in absurd (omega arith)
 
-module _ {E : Type 0} (decoded : ℕ → Option E) (n stores : ℕ) (m : MemoryStorage) (q : Majority) (c : Cluster MemoryStorage Majority E) (cells : vec_items m.cells ≡ replicate n (blank_cell stores)) where
-  pub setup_made : Ok q ≡ majority_of n → c.storage ≡ m → c.quorum ≡ q → register_setup decoded c ≡ table_setup n (λ code. is_some (decoded code))
+module _ {E : Type 0} (kind : EntryOf E) (n stores : ℕ) (m : MemoryStorage) (q : Majority) (c : Cluster MemoryStorage Majority E) (cells : vec_items m.cells ≡ replicate n (blank_cell stores)) where
+  pub setup_made : Ok q ≡ majority_of n → c.storage ≡ m → c.quorum ≡ q → register_setup kind c ≡ table_setup n (of_kind kind)
   setup_made rule storage quorum = λ j. record {
     replicas = count j;
     size = size j;
     enough = most (size j);
     layer = λ _. 0;
-    valid = λ code. is_some (decoded code);
+    valid = of_kind kind;
   }
     where
       count : vec_len c.storage.cells ≡ n

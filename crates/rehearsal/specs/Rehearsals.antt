@@ -18,9 +18,13 @@ use Rattle.rehearsal.specs.declared.reply.Reply.{Reply}
 use Rattle.rehearsal.specs.declared.reply.Reply.TheVariants.{NotUnderstood, Answered}
 use Rattle.storage.specs.Bids.{bid_decoded}
 use Rattle.storage.specs.Memories.{blank_cell, left_at, page_at}
-use Rattle.storage.specs.Quorums.{majority_enough}
 use Rattle.storage.specs.Spans.{span_decoded}
 use Rattle.storage.specs.Weights.{most}
+use Rattle.storage.specs.contracts.entry.bid.BidEntry.TheImpl.{ghosts as bids}
+use Rattle.storage.specs.contracts.entry.span.making.SpanEntry.TheImpl.{ghosts as spans}
+use Rattle.storage.specs.contracts.quorum.majority.making.MajorityQuorum.TheImpl.{ghosts as majority}
+use Rattle.storage.specs.contracts.stable.memory.MemoryStorageStorage.TheImpl.{ghosts as table}
+use Rattle.storage.specs.declared.entry.Entry.{Ghosts as EntryOf}
 use Rattle.storage.specs.declared.quorum.majority.Majority.{Majority}
 use Rattle.storage.specs.declared.stable.memory.MemoryStorage.{MemoryStorage}
 
@@ -87,14 +91,14 @@ rehearsed s (line ∷ lines) = printed (heard s line).1 ++ rehearsed (heard s li
 
 -- the stage of a rehearsal
 module _ {E : Type 0} where
-  abbrev pub register_setup : (ℕ → Option E) → Cluster MemoryStorage Majority E → Setup
-  register_setup decoded c = setup_of (λ m. vec_len m.cells) (λ _ _. 0) (λ q. q.replicas) majority_enough decoded c
+  abbrev pub register_setup : EntryOf E → Cluster MemoryStorage Majority E → Setup
+  register_setup k c = setup_of table majority k c
 
   abbrev pub register_state : Cluster MemoryStorage Majority E → State
-  register_state c = state_of (λ m i. page_at (vec_items m.cells) i) (λ m i. left_at (vec_items m.cells) i) c
+  register_state c = state_of table c
 
 abbrev pub stage_of : Rehearsal → Stage
 stage_of Waiting = waiting
-stage_of (Bids c) = running (register_setup bid_decoded c) (register_state c)
-stage_of (Spans c) = running (register_setup span_decoded c) (register_state c)
+stage_of (Bids c) = running (register_setup bids c) (register_state c)
+stage_of (Spans c) = running (register_setup spans c) (register_state c)
 stage_of Over = over

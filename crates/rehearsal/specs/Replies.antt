@@ -1,21 +1,23 @@
 -- What is printed for a line. Assumes nothing.
-use Rattle.std.specs.Prelude.{ℕ, List, ◌++◌, codes, decimal}
+use Rattle.std.specs.Prelude.{ℕ, List, ◌++◌, Some, None, Ok, Err, Option, Result, codes, decimal}
 use Rattle.cluster.specs.Refusals.{number_of}
 use Rattle.cluster.specs.declared.answer.Answer.{Answer}
-use Rattle.cluster.specs.declared.answer.Outcome.{Outcome}
-use Rattle.cluster.specs.declared.answer.Outcome.TheVariants.{Nothing, Written, Read, Recovered, Fault, Refused}
+use Rattle.cluster.specs.declared.answer.Failure.{Failure}
+use Rattle.cluster.specs.declared.answer.Failure.TheVariants.{Fault, Refused}
 use Rattle.rehearsal.specs.declared.reply.Reply.{Reply}
 use Rattle.rehearsal.specs.declared.reply.Reply.TheVariants.{NotUnderstood, Answered}
 use Rattle.replica.specs.Faults.{number_of as fault_number}
+use Rattle.replica.specs.declared.reaction.Outcome.{Outcome}
+use Rattle.replica.specs.declared.reaction.Outcome.TheVariants.{Written, Read, Recovered}
 
 -- the letter of each outcome, with the sequence that was written, the code that was read, or the number of the fault or the refusal
-abbrev pub outcome_text : Outcome → List ℕ
-outcome_text Nothing = codes "-"
-outcome_text (Written t) = codes "w" ++ decimal t.sequence
-outcome_text (Read t c) = codes "r" ++ decimal c
-outcome_text Recovered = codes "b"
-outcome_text (Fault f) = codes "f" ++ decimal (fault_number f.replica)
-outcome_text (Refused r) = codes "x" ++ decimal (number_of r)
+abbrev pub outcome_text : Result (Option Outcome) Failure → List ℕ
+outcome_text (Ok None) = codes "-"
+outcome_text (Ok (Some (Written t))) = codes "w" ++ decimal t.sequence
+outcome_text (Ok (Some (Read t c))) = codes "r" ++ decimal c
+outcome_text (Ok (Some Recovered)) = codes "b"
+outcome_text (Err (Fault f)) = codes "f" ++ decimal (fault_number f.replica)
+outcome_text (Err (Refused r)) = codes "x" ++ decimal (number_of r)
 
 -- outcome, sent, dropped, stored, in transit
 abbrev pub answer_text : Answer → ℕ → List ℕ

@@ -1,5 +1,6 @@
 // A rehearsal of runs: one line in, and at most one line out.
-ghost use Rattle.std.specs.Prelude.{◌≡◌, true, is_some, MatchResult};
+ghost use Rattle.std.specs.Prelude.{◌≡◌, true, MatchResult};
+ghost use Rattle.cluster.specs.Fitness.{of_kind};
 ghost use Rattle.cluster.specs.States.{Does};
 ghost use Rattle.rehearsal.specs.Rehearsals.{heard, is_over, is_waiting, register_setup, register_state, replied, stage_of, table_setup, table_state};
 ghost use Rattle.rehearsal.specs.declared.rehearsal.Rehearsal.TheVariants.{Waiting};
@@ -26,7 +27,7 @@ pub enum Rehearsal {
 
 // What a line does to a register, and the reply.
 fn reply_to<S: Storage, Q: Quorum, E: Entry>(register: &mut Cluster<S, Q, E>, line: &[u8]) -> Reply
-    ensures { Does S.page S.left S.layer S.replicas Q.size Q.enough E.decoded (λ u s. replied u s line.now) register.old register.new result }
+    ensures { Does S.Storage Q.Quorum E.Entry (λ u s. replied u s line.now) register.old register.new result }
 {
     let Some(event) = event_of(line) else {
         return Reply::NotUnderstood;
@@ -93,7 +94,7 @@ fn register_of<E: Entry>(
     opening: &Opening,
 ) -> Result<Cluster<MemoryStorage, Majority, E>, MakeError>
     requires { count_fits opening.now.replicas ≡ true }
-    ensures { MatchResult result (λ c. (register_setup E.decoded c ≡ table_setup opening.now.replicas (λ code. is_some (E.decoded code))) × (register_state c ≡ table_state opening.now.replicas opening.now.stores)) (λ e. e ≡ NoMemory) }
+    ensures { MatchResult result (λ c. (register_setup E.Entry c ≡ table_setup opening.now.replicas (of_kind E.Entry)) × (register_state c ≡ table_state opening.now.replicas opening.now.stores)) (λ e. e ≡ NoMemory) }
 {
     let storage = MemoryStorage::blank(heap, opening.replicas, opening.stores)?;
     let Ok(majority) = Majority::new(opening.replicas) else {

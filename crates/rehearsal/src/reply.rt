@@ -2,7 +2,8 @@
 ghost use Rattle.rehearsal.specs.Replies.{outcome_text, reply_text};
 ghost use Rattle.std.specs.Prelude.{Some};
 
-use cluster::{Answer, Outcome};
+use cluster::{Answer, Failure};
+use replica::Outcome;
 use std::fmt;
 
 #[derive(Clone, Copy)]
@@ -15,28 +16,19 @@ pub enum Reply {
 
 // An outcome, to be printed.
 #[derive(Clone, Copy)]
-struct Printed(Outcome);
+struct Printed(Result<Option<Outcome>, Failure>);
 
 impl fmt::Display for Printed {
     ghost output = { λ o. Some (outcome_text o.0) };
 
     fn fmt<W: fmt::Write>(&self, f: &mut fmt::Formatter<W>) -> fmt::Result {
         match self.0 {
-            Outcome::Nothing => f.write_str("-"),
-            Outcome::Written(when) => {
-                let sequence = when.sequence;
-                write!(f, "w{sequence}")
-            }
-            Outcome::Read(_, code) => write!(f, "r{code}"),
-            Outcome::Recovered => f.write_str("b"),
-            Outcome::Fault(fault) => {
-                let number = fault.replica.number();
-                write!(f, "f{number}")
-            }
-            Outcome::Refused(refusal) => {
-                let number = refusal.number();
-                write!(f, "x{number}")
-            }
+            Ok(None) => f.write_str("-"),
+            Ok(Some(Outcome::Written(when))) => write!(f, "w{}", when.sequence),
+            Ok(Some(Outcome::Read(_, code))) => write!(f, "r{code}"),
+            Ok(Some(Outcome::Recovered)) => f.write_str("b"),
+            Err(Failure::Fault(fault)) => write!(f, "f{}", fault.replica.number()),
+            Err(Failure::Refused(refusal)) => write!(f, "x{}", refusal.number()),
         }
     }
 }

@@ -10,6 +10,6 @@ returns-in-Ok-new g c =
     let register = c.in-Ok-new.register in
     let cells = c.in_ok-storage.ensures.1 in
     let starts = c.in-Ok-new.ensures.cases in (
-      setup_made g.E.Entry.decoded n stores storage majority register cells c.in-Ok.ensures starts.0 starts.1,
-      state_made g.E.Entry.decoded n stores storage majority register cells starts.3,
+      setup_made g.E.Entry n stores storage majority register cells c.in-Ok.ensures starts.0 starts.1,
+      state_made g.E.Entry n stores storage majority register cells starts.3,
     )
