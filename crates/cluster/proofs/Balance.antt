@@ -7,7 +7,7 @@ use Rattle.cluster.proofs.ReplicaCases as replica
 use Rattle.cluster.proofs.ReplicaCases.{Receipt, Recovery}
 use Rattle.cluster.proofs.Sending.{all_more}
 use Rattle.cluster.specs.Acts.{accepted, acted, broadcasted, dispatched}
-use Rattle.cluster.specs.Laws.{Balanced, taken_out, takes, total}
+use Rattle.cluster.specs.Laws.{Balanced, takes, total}
 use Rattle.cluster.specs.States.{Setup, State, place_at, with_effect}
 use Rattle.cluster.specs.Transits.{room_in}
 use Rattle.cluster.specs.declared.answer.Answer.{Answer}

@@ -2,7 +2,7 @@ pub mod Balance
 pub mod EventCases
 pub mod FitEffects
 pub mod FitPages
-pub mod Reading
+pub mod Newest
 pub mod ReplicaCases
 pub mod Running
 pub mod Sending

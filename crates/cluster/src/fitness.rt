@@ -28,17 +28,7 @@ fn unfit_replica<S: Storage, E: Entry>(storage: &S, n: usize) -> Option<usize>
     requires { n ≡ S.replicas storage.now }
     ensures { result ≡ lowest_unfit n (of_kind E.Entry) (S.page storage.now) 0 n }
 {
-    for i in 0..n {
-        match storage.page(i) {
-            Ok(page) => {
-                if !page_fits::<E>(n, &page) {
-                    return Some(i);
-                }
-            }
-            Err(_) => unreachable(),
-        }
-    }
-    None
+    (0..n).find(|i| storage.page(*i).is_ok_and(|page| !page_fits::<E>(n, &page)))
 }
 
 // Whether a page of a register of n replicas holds what such a register can have stored.

@@ -1,7 +1,7 @@
 // What is done with a table.
 ghost use Rattle.std.specs.Prelude.{◌≡◌, ◌<◌, ◌≤◌, [], length, replicate, IfOk, None, slice_index_or, slice_set};
-ghost use Rattle.std.specs.Borrow.{follows, sem};
-ghost use Rattle.cluster.specs.Transits.{blank_record, newer, newest_of, no_message, room_in, sent_count, sent_to_all, with_sent};
+ghost use Rattle.std.specs.Borrow.{Lends, sem};
+ghost use Rattle.cluster.specs.Transits.{blank_record, newest_of, no_message, room_in, sent_count, sent_to_all, with_sent};
 ghost use Rattle.cluster.specs.contracts.table.Table.{the_row as table-row};
 ghost use Rattle.replica.specs.Records.{down};
 ghost use Rattle.replica.specs.contracts.record.Replica.{the_row as replica-row};
@@ -10,17 +10,6 @@ ghost use Rattle.std.specs.List.{remove};
 use crate::table::Table;
 use replica::{Message, Replica};
 use std::alloc::{AllocError, Global};
-
-// What is newest to replica i, once another message is seen.
-fn newer_to(i: usize, newest: Option<Message>, message: Message) -> Option<Message>
-    ensures { result ≡ newer i newest message }
-{
-    if message.receiver as usize == i {
-        Some(message)
-    } else {
-        newest
-    }
-}
 
 impl Table {
     // All replicas down, and nothing in transit.
@@ -77,11 +66,11 @@ impl Table {
     pub(crate) fn newest_to(&self, i: usize) -> Option<Message>
         ensures { result ≡ newest_of i None self.now.transit.items }
     {
-        let mut newest = None;
-        for place in 0..self.count() {
-            newest = newer_to(i, newest, self.message(place));
-        }
-        newest
+        self.transit
+            .iter()
+            .rev()
+            .find(|message| message.receiver as usize == i)
+            .copied()
     }
 
     // A replica's record.
@@ -95,7 +84,7 @@ impl Table {
     // Lends the record of the addressed replica.
     pub(crate) fn lend(&mut self, i: usize) -> &mut Replica
         requires { i < 15 }
-        ensures* writes_back { sem 𝓛 (follows table-row replica-row self.entry.ghost_name result.ghost_name (λ w. record { replicas = slice_set self.old.replicas i w; transit = self.old.transit; room = self.old.room; few = self.old.few })) }
+        ensures* writes_back { sem 𝓛 (Lends table-row replica-row self.entry result (λ w. record { replicas = slice_set self.old.replicas i w; transit = self.old.transit; room = self.old.room; few = self.old.few })) }
         ensures facts { result.now ≡ slice_index_or self.old.replicas i blank_record }
     {
         &mut self.replicas[i]

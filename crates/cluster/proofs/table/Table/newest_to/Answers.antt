@@ -1,18 +1,14 @@
-use Rattle.std.proofs.Common.{◌+◌, ◌∷◌, drop, vec_items, Option, sym, ap, ◌∙◌, arith}
-use Rattle.cluster.specs.Transits.{newest_of, no_message}
-use Rattle.replica.specs.declared.message.Message.{Message}
-use Rattle.std.proofs.lemmas.List.{drop_all, drop_more}
+use borrow.Author.Tests.{tests}
+use Rattle.std.proofs.Common.{rules, ◌∙◌}
+use Rattle.std.proofs.lemmas.Iterator.Adapters.{YieldsList-from_rev_slice}
+use Rattle.std.proofs.lemmas.Iterator.Search.{find_from_yields_List}
+use Rattle.cluster.proofs.Newest.{newest_is, to_it}
 use Rattle.cluster.proofs.table.Table.newest_to.Goals as goal
-
-pub loop-place-preserved : goal.loop-place-preserved
-loop-place-preserved c =
-    let ms = vec_items c.args.self.now.transit in
-    let p = c.loop-place.place in
-    let i = c.args.i in
-    c.loop-place.invariant
-    ∙ ap (newest_of i c.loop-place.newest) (drop_more ms p no_message (omega arith) ∙ ap (λ (m : Message). m ∷ drop (p + 1) ms) (sym c.message.ensures))
-    ∙ ap (λ (found : Option Message). newest_of i found (drop (p + 1) ms)) (sym c.newer_to-newest.ensures)
 
 pub returns : goal.returns
 returns c =
-    sym (c.loop-place.invariant ∙ ap (newest_of c.args.i c.loop-place.newest) (drop_all c.loop-place.place (vec_items c.args.self.now.transit) (omega arith)))
+    let i = c.args.i in
+    let ms = c.args.self.now.transit.items in
+    c.copied.ensures
+    ∙ find_from_yields_List (to_it i) _ _ _ c.find.ensures.ran (YieldsList-from_rev_slice ms (cc)) (λ x b q k. search (rules, tests))
+    ∙ newest_is i ms
