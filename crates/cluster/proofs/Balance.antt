@@ -81,8 +81,8 @@ stores_left n i left layer e = go (ltb i n) (ltb 0 left) refl e
   where
     go : (b d : Bool) → ltb 0 left ≡ d → ◌≡◌ {A = Result (Unit {0}) StorageFault} (cond b (cond d (Ok tt) (Err (no_stores i layer))) (Err (no_replica i))) (Ok tt) → 0 < left
     go true true k h = ltb-true 0 left k
-    go true false k h = let z : ◌≡◌ {A = ℕ} 0 1 = cc in absurd (omega arith)
-    go false d k h = let z : ◌≡◌ {A = ℕ} 0 1 = cc in absurd (omega arith)
+    go true false k h = absurd cc
+    go false d k h = absurd cc
 
 -- a store takes one of the stores left
 stores_taken : (u : Setup) (s : State) (i : ℕ) {o : Option Page} {b : Bool} → i < u.replicas → Stores (place_at u s i) o b → total (left_after i o s.left) u.replicas + cond b 1 0 ≡ total s.left u.replicas

@@ -10,7 +10,7 @@ use Rattle.storage.specs.declared.page.Page.{Page}
 -- what a search that finds no unfit page says of the first one and of the rest
 none_here : (b : Bool) (x : Option ℕ) (i : ℕ) → cond b x (Some i) ≡ None → (b ≡ true) × (x ≡ None)
 none_here true x i e = (refl, e)
-none_here false x i e = let z : ◌≡◌ {A = ℕ} 0 1 = cc in absurd (omega arith)
+none_here false x i e = absurd cc
 
 module _ (n : ℕ) (valid : ℕ → Bool) (pages : ℕ → Page) where
   -- each page is fit
@@ -34,5 +34,5 @@ module _ (n : ℕ) (valid : ℕ → Bool) (pages : ℕ → Page) where
 -- a fit storage has the quorum's number of replicas, and no unfit page
 pub fitness_parts : (b : Bool) (o : Option ℕ) → ◌≡◌ {A = Result (Unit {0}) Refusal} (cond b (by_page o) (Err ReplicaCount)) (Ok tt) → (b ≡ true) × (o ≡ None)
 fitness_parts true None e = (refl, refl)
-fitness_parts true (Some i) e = let z : ◌≡◌ {A = ℕ} 0 1 = cc in absurd (omega arith)
-fitness_parts false o e = let z : ◌≡◌ {A = ℕ} 0 1 = cc in absurd (omega arith)
+fitness_parts true (Some i) e = absurd cc
+fitness_parts false o e = absurd cc

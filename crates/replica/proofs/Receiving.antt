@@ -23,4 +23,4 @@ module _ (n i left layer : ℕ) (enough : (ℕ → Bool) → Bool) where
     where
       go : (b : Bool) (f : StorageFault) → Ok held ≡ cond b (Ok p) (Err f) → followed s enough (at held) r' m ≡ cond b (followed (action p r m) enough (at p) (noticed (action p r m) r m) m) (reacting r nothing)
       go true f k = let same : held ≡ p = cc in cc
-      go false f k = let z : ◌≡◌ {A = ℕ} 0 1 = cc in absurd (omega arith)
+      go false f k = absurd cc
