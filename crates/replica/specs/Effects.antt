@@ -1,6 +1,7 @@
 -- What a replica finds in storage, and what an event changes there. Assumes nothing.
 use Rattle.std.specs.Prelude.{◌≡◌, ℕ, ◌-◌, Some, None, Option, Result}
 use Rattle.replica.specs.declared.record.Replica.{Replica}
+use Rattle.replica.specs.declared.site.Site.{Site}
 use Rattle.storage.specs.Storages.{stored, updated}
 use Rattle.storage.specs.declared.fault.StorageFault.{StorageFault}
 use Rattle.storage.specs.declared.page.Page.{Page}
@@ -15,9 +16,13 @@ pub record Place : Type 0 where
   pub left : ℕ
   pub layer : ℕ
 
--- the place of replica i, with page p, in the storage s, whose meaning is m
-abbrev pub place : {S : Type 0} → StorageOf S → S → ℕ → Page → Place
-place m s i p = record { replicas = m.replicas s; own = i; page = p; left = m.left s i; layer = m.layer s i }
+-- where replica i stands in the storage s, whose meaning is m
+abbrev pub site_in : {S : Type 0} → StorageOf S → S → ℕ → Site
+site_in m s i = record { own = i; page = m.page s i }
+
+-- the place of a replica at a site in the storage s
+abbrev pub place : {S : Type 0} → StorageOf S → S → Site → Place
+place m s t = record { replicas = m.replicas s; own = t.own; page = t.page; left = m.left s t.own; layer = m.layer s t.own }
 
 -- what a store at a place answers
 abbrev pub store_at : Place → Result (Unit {0}) StorageFault

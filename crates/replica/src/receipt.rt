@@ -1,6 +1,6 @@
 // A message reaches its receiver: the step, and what storage and quorum are asked around it.
 ghost use Rattle.std.specs.Prelude.{◌≡◌};
-ghost use Rattle.replica.specs.Effects.{Performs, place, store_at};
+ghost use Rattle.replica.specs.Effects.{Performs, place, site_in, store_at};
 ghost use Rattle.replica.specs.Receipts.{acknowledged, followed, kept_if, queried, reader_updates, received, writer_updates};
 
 use crate::fault::{Cause, ReplicaFault, Task};
@@ -20,7 +20,7 @@ impl Replica {
         quorum: &Q,
         message: &Message,
     ) -> Result<Reaction, ReplicaFault>
-        ensures { Performs S.Storage message.now.receiver (received (Q.enough quorum.now) (place S.Storage storage.old message.now.receiver (S.page storage.old message.now.receiver)) self.old message.now) storage.old storage.new self.new result }
+        ensures { Performs S.Storage message.now.receiver (received (Q.enough quorum.now) (place S.Storage storage.old (site_in S.Storage storage.old message.now.receiver)) self.old message.now) storage.old storage.new self.new result }
     {
         let Ok(page) = storage.page(message.receiver as usize) else {
             return Ok(Reaction::NOTHING);
@@ -39,7 +39,7 @@ impl Replica {
         site: &Site,
         message: &Message,
     ) -> Result<Reaction, ReplicaFault>
-        ensures { Performs S.Storage site.now.own (followed step (Q.enough quorum.now) (place S.Storage storage.old site.now.own site.now.page) self.old message.now) storage.old storage.new self.new result }
+        ensures { Performs S.Storage site.now.own (followed step (Q.enough quorum.now) (place S.Storage storage.old site.now) self.old message.now) storage.old storage.new self.new result }
     {
         match step {
             Step::Ignore => Ok(Reaction::NOTHING),
@@ -62,7 +62,7 @@ impl Replica {
         site: &Site,
         message: &Message,
     ) -> Result<Reaction, ReplicaFault>
-        ensures { Performs S.Storage site.now.own (kept_if (store_at (place S.Storage storage.old site.now.own site.now.page)) (place S.Storage storage.old site.now.own site.now.page) self.old message.now) storage.old storage.new self.new result }
+        ensures { Performs S.Storage site.now.own (kept_if (store_at (place S.Storage storage.old site.now)) (place S.Storage storage.old site.now) self.old message.now) storage.old storage.new self.new result }
     {
         let new = Page {
             written: message.timestamp,
@@ -82,7 +82,7 @@ impl Replica {
         quorum: &Q,
         site: &Site,
     ) -> Result<Reaction, ReplicaFault>
-        ensures { Performs S.Storage site.now.own (queried (Q.enough quorum.now) (place S.Storage storage.old site.now.own site.now.page) self.old) storage.old storage.new self.new result }
+        ensures { Performs S.Storage site.now.own (queried (Q.enough quorum.now) (place S.Storage storage.old site.now) self.old) storage.old storage.new self.new result }
     {
         if !quorum.is_quorum(&self.heard) {
             return Ok(Reaction::NOTHING);
@@ -113,7 +113,7 @@ impl Replica {
         storage: &mut S,
         site: &Site,
     ) -> Result<Reaction, ReplicaFault>
-        ensures { Performs S.Storage site.now.own (writer_updates (place S.Storage storage.old site.now.own site.now.page) self.old) storage.old storage.new self.new result }
+        ensures { Performs S.Storage site.now.own (writer_updates (place S.Storage storage.old site.now) self.old) storage.old storage.new self.new result }
     {
         self.status = Status::Idle;
         if self.best.sequence >= Timestamp::LAST_SEQUENCE {

@@ -1,6 +1,6 @@
 // A replica that is down comes back.
 ghost use Rattle.std.specs.Prelude.{◌≡◌};
-ghost use Rattle.replica.specs.Effects.{Performs, place};
+ghost use Rattle.replica.specs.Effects.{Performs, place, site_in};
 ghost use Rattle.replica.specs.Recoveries.{finishing, recovered};
 
 use crate::fault::{ReplicaFault, Task};
@@ -21,7 +21,7 @@ impl Replica {
         storage: &mut S,
         own: u32,
     ) -> Result<Reaction, ReplicaRefusal>
-        ensures { Performs S.Storage own (recovered (place S.Storage storage.old own (S.page storage.old own)) self.old) storage.old storage.new self.new result }
+        ensures { Performs S.Storage own (recovered (place S.Storage storage.old (site_in S.Storage storage.old own)) self.old) storage.old storage.new self.new result }
     {
         if self.status != Status::Down {
             return Err(ReplicaRefusal::NotDown);
