@@ -3,6 +3,7 @@ use crate::table::Table;
 use storage::{Entry, Quorum, Storage};
 
 pub mod acts;
+mod fitness;
 pub mod making;
 pub mod questions;
 pub mod runs;

@@ -1,4 +1,4 @@
-// What may happen in a cluster.
+// What may happen in a cluster. An enum and no closures: runs are lists of events, and proofs go by cases on them.
 #[derive(Clone, Copy, PartialEq, Eq, Debug)]
 pub enum Event {
     // a replica begins to write the entry of a code

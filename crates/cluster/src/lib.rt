@@ -4,7 +4,6 @@
 pub mod answer;
 pub mod cluster;
 pub mod event;
-mod fitness;
 pub mod refusal;
 pub mod table;
 

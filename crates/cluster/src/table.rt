@@ -5,7 +5,7 @@ use replica::{Message, Replica};
 
 pub mod moves;
 
-// At most 96 messages are in transit. Room for them is made once, so that no event can want memory.
+// An array of 15, since an event may address any of them and none may want memory. At most 96 messages are in transit. Room for them is made once, so that no event can want memory.
 #[derive(Drop)]
 pub struct Table {
     replicas: [Replica; 15],

@@ -49,6 +49,7 @@ impl ReplicaFault {
         }
     }
 
+    // By a match: a variant that holds a value cannot be cast to its number.
     pub fn number(&self) -> u8
         ensures { result ≡ number_of self.now }
     {

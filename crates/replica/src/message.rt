@@ -24,7 +24,8 @@ pub struct Ticket {
     pub round: u32,
 }
 
-// Query and Ack have the blank timestamp and code 0.
+// Query and Ack have the blank timestamp and code 0. The kind stands beside the fields, and no variant holds
+// them: a message of any fields can reach a replica, and a narrower type would refuse some.
 #[derive(Clone, Copy, PartialEq, Eq, Debug)]
 pub struct Message {
     pub kind: MessageKind,

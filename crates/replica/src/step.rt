@@ -7,9 +7,10 @@ use crate::message::{Message, MessageKind};
 use crate::record::{Replica, Status};
 use storage::Page;
 
+// An enum and no closure: the contract of `step` names what is chosen, and proofs go by cases on it.
 #[derive(Clone, Copy, PartialEq, Eq, Debug)]
 pub enum Step {
-    // nothing
+    // nothing: one of the choices, and no lack of one
     Ignore,
     // respond to a query with what the page holds as written
     Report,

@@ -7,7 +7,6 @@ ghost use Rattle.cluster.specs.States.{Does, setup_of, state_of};
 use crate::answer::{Answer, ClusterFault};
 use crate::cluster::Cluster;
 use crate::event::Event;
-use crate::fitness::check_fitness;
 use crate::refusal::Refusal;
 use replica::{Message, Reaction, Sending, Site};
 use storage::{Entry, Quorum, Storage};
@@ -35,7 +34,7 @@ impl<S: Storage, Q: Quorum, E: Entry> Cluster<S, Q, E> {
     fn try_act(&mut self, event: &Event, at: usize) -> Result<Answer, Refusal>
         ensures { Does S.Storage Q.Quorum E.Entry (λ u s. tried at u s event.now) self.old self.new result }
     {
-        check_fitness::<S, Q, E>(&self.storage, &self.quorum)?;
+        self.check_fitness()?;
         match *event {
             Event::Write { replica, code } => self.write(replica, code),
             Event::Read { replica } => self.read(replica),

@@ -4,7 +4,6 @@ ghost use Rattle.cluster.specs.Questions.{counted, message_at, newest_to, status
 ghost use Rattle.cluster.specs.States.{setup_of, state_of};
 
 use crate::cluster::Cluster;
-use crate::fitness::check_fitness;
 use crate::refusal::Refusal;
 use replica::{Message, Status};
 use storage::{Entry, Quorum, Storage};
@@ -14,7 +13,7 @@ impl<S: Storage, Q: Quorum, E: Entry> Cluster<S, Q, E> {
     pub fn in_transit(&self) -> Result<usize, Refusal>
         ensures { result ≡ counted (setup_of S.Storage Q.Quorum E.Entry self.now) (state_of S.Storage self.now) }
     {
-        check_fitness::<S, Q, E>(&self.storage, &self.quorum)?;
+        self.check_fitness()?;
         Ok(self.table.count())
     }
 
@@ -22,7 +21,7 @@ impl<S: Storage, Q: Quorum, E: Entry> Cluster<S, Q, E> {
     pub fn message(&self, place: usize) -> Result<Message, Refusal>
         ensures { result ≡ message_at (setup_of S.Storage Q.Quorum E.Entry self.now) (state_of S.Storage self.now) place }
     {
-        check_fitness::<S, Q, E>(&self.storage, &self.quorum)?;
+        self.check_fitness()?;
         if place >= self.table.count() {
             return Err(Refusal::NoMessage);
         }
@@ -33,7 +32,7 @@ impl<S: Storage, Q: Quorum, E: Entry> Cluster<S, Q, E> {
     pub fn status(&self, i: usize) -> Result<Status, Refusal>
         ensures { result ≡ status_of (setup_of S.Storage Q.Quorum E.Entry self.now) (state_of S.Storage self.now) i }
     {
-        check_fitness::<S, Q, E>(&self.storage, &self.quorum)?;
+        self.check_fitness()?;
         if i >= self.storage.replicas() {
             return Err(Refusal::NoSuchReplica);
         }
@@ -44,7 +43,7 @@ impl<S: Storage, Q: Quorum, E: Entry> Cluster<S, Q, E> {
     pub fn newest_to(&self, i: usize) -> Result<Option<Message>, Refusal>
         ensures { result ≡ newest_to (setup_of S.Storage Q.Quorum E.Entry self.now) (state_of S.Storage self.now) i }
     {
-        check_fitness::<S, Q, E>(&self.storage, &self.quorum)?;
+        self.check_fitness()?;
         if i >= self.storage.replicas() {
             return Err(Refusal::NoSuchReplica);
         }

@@ -23,6 +23,7 @@ impl<S: Storage, Q: Quorum, E: Entry> Cluster<S, Q, E> {
         if answers.len() < events.len() {
             return Err(Refusal::ShortAnswers);
         }
+        // The index is the event's place, which a fault names, and no count kept beside the items.
         for (k, event) in events.iter().enumerate() {
             answers[k] = self.act_at(event, k);
         }

@@ -98,6 +98,7 @@ impl Table {
         ensures replicas { self.new.replicas ≡ self.old.replicas }
     {
         let before = self.count();
+        // A range: each number is a receiver, and nothing is indexed.
         for receiver in 0..n {
             let _ = self.send(Message {
                 receiver,

@@ -2,24 +2,24 @@
 ghost use Rattle.std.specs.Prelude.{◌≡◌};
 ghost use Rattle.cluster.specs.Fitness.{code_fits, fitness, lowest_unfit, of_kind, page_fits};
 
+use crate::cluster::Cluster;
 use crate::refusal::Refusal;
 use replica::Replica;
 use storage::{Entry, Page, Quorum, Storage, Timestamp};
 
-// Refused with 5 or 6 where they are not.
-pub(crate) fn check_fitness<S: Storage, Q: Quorum, E: Entry>(
-    storage: &S,
-    quorum: &Q,
-) -> Result<(), Refusal>
-    ensures { result ≡ fitness (S.replicas storage.now) (Q.size quorum.now) (of_kind E.Entry) (S.page storage.now) }
-{
-    let n = storage.replicas();
-    if n < 1 || n > 15 || n != quorum.replicas() {
-        return Err(Refusal::ReplicaCount);
-    }
-    match unfit_replica::<S, E>(storage, n) {
-        Some(replica) => Err(Refusal::Unfit { replica }),
-        None => Ok(()),
+impl<S: Storage, Q: Quorum, E: Entry> Cluster<S, Q, E> {
+    // Refused with 5 or 6 where storage and quorum are not fit.
+    pub(crate) fn check_fitness(&self) -> Result<(), Refusal>
+        ensures { result ≡ fitness (S.replicas self.now.storage) (Q.size self.now.quorum) (of_kind E.Entry) (S.page self.now.storage) }
+    {
+        let n = self.storage.replicas();
+        if !(1..=15).contains(&n) || n != self.quorum.replicas() {
+            return Err(Refusal::ReplicaCount);
+        }
+        match unfit_replica::<S, E>(&self.storage, n) {
+            Some(replica) => Err(Refusal::Unfit { replica }),
+            None => Ok(()),
+        }
     }
 }
 

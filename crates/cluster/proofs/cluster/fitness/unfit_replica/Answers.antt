@@ -2,7 +2,7 @@ use Rattle.std.proofs.Common.{rules, arith}
 use Rattle.std.proofs.lemmas.Iterator.{first_from_Range}
 use Rattle.cluster.proofs.UnfitSearch.{Passes, Stops, first_unfit}
 use Rattle.cluster.specs.Fitness.{of_kind}
-use Rattle.cluster.proofs.fitness.unfit_replica.Goals as goal
+use Rattle.cluster.proofs.cluster.fitness.unfit_replica.Goals as goal
 
 pub returns : goal.returns
 returns g c =
