@@ -5,7 +5,8 @@ use replica::{Message, Replica};
 
 pub mod moves;
 
-// An array of 15, since an event may address any of them and none may want memory. At most 96 messages are in transit. Room for them is made once, so that no event can want memory.
+// At most 96 messages are in transit. Room for them is made once, so that no event can want memory; and the
+// records are an array, so that a number below 15 is never out of bounds.
 #[derive(Drop)]
 pub struct Table {
     replicas: [Replica; 15],
