@@ -58,10 +58,17 @@ impl<S: Storage, Q: Quorum, E: Entry> Cluster<S, Q, E> {
         })
     }
 
-    // Sends what a replica sends; how many found room, and how many did not.
-    fn dispatch(&mut self, sending: Option<Sending>) -> (usize, usize)
-        requires { S.replicas self.old.storage ≤ 15 }
-        ensures { Does S.Storage Q.Quorum E.Entry (λ u s. dispatched u.replicas s sending) self.old self.new result }
+    // How many replicas there are.
+    fn replicas(&self) -> u32
+        requires { S.replicas self.now.storage ≤ 15 }
+        ensures { result ≡ S.replicas self.now.storage }
+    {
+        self.storage.replicas() as u32
+    }
+
+    // Sends what a replica sends, among n; how many found room, and how many did not.
+    fn dispatch(&mut self, n: u32, sending: Option<Sending>) -> (usize, usize)
+        ensures { Does S.Storage Q.Quorum E.Entry (λ _ s. dispatched n s sending) self.old self.new result }
     {
         match sending {
             None => (0, 0),
@@ -73,28 +80,25 @@ impl<S: Storage, Q: Quorum, E: Entry> Cluster<S, Q, E> {
                 }
             }
             Some(Sending::All(message)) => {
-                let n = self.storage.replicas();
-                let sent = self.table.send_all(n as u32, &message);
-                (sent, n - sent)
+                let sent = self.table.send_all(n, &message);
+                (sent, n as usize - sent)
             }
         }
     }
 
     // The reaction of a replica, as the answer to its event.
-    fn accept(&mut self, reaction: Reaction) -> Answer
-        requires { S.replicas self.old.storage ≤ 15 }
-        ensures { Does S.Storage Q.Quorum E.Entry (λ u s. accepted u.replicas s reaction) self.old self.new result }
+    fn accept(&mut self, n: u32, reaction: Reaction) -> Answer
+        ensures { Does S.Storage Q.Quorum E.Entry (λ _ s. accepted n s reaction) self.old self.new result }
     {
-        let (sent, dropped) = self.dispatch(reaction.sending);
+        let (sent, dropped) = self.dispatch(n, reaction.sending);
         Answer::of(reaction.outcome, sent, dropped, reaction.stored)
     }
 
     // Sends a message to all, which is all that comes of an event.
-    fn broadcast(&mut self, message: Message) -> Answer
-        requires { S.replicas self.old.storage ≤ 15 }
-        ensures { Does S.Storage Q.Quorum E.Entry (λ u s. broadcasted u.replicas s message) self.old self.new result }
+    fn broadcast(&mut self, n: u32, message: Message) -> Answer
+        ensures { Does S.Storage Q.Quorum E.Entry (λ _ s. broadcasted n s message) self.old self.new result }
     {
-        let (sent, dropped) = self.dispatch(Some(Sending::All(message)));
+        let (sent, dropped) = self.dispatch(n, Some(Sending::All(message)));
         Answer::of(None, sent, dropped, false)
     }
 
@@ -108,7 +112,7 @@ impl<S: Storage, Q: Quorum, E: Entry> Cluster<S, Q, E> {
             return Err(Refusal::NotOfKind);
         }
         let query = self.table.lend(i).write(&site, code)?;
-        Ok(self.broadcast(query))
+        Ok(self.broadcast(self.replicas(), query))
     }
 
     // A replica begins a read.
@@ -118,7 +122,7 @@ impl<S: Storage, Q: Quorum, E: Entry> Cluster<S, Q, E> {
     {
         let site = self.site(i)?;
         let query = self.table.lend(i).read(&site)?;
-        Ok(self.broadcast(query))
+        Ok(self.broadcast(self.replicas(), query))
     }
 
     // A replica sends its round's message again.
@@ -128,7 +132,7 @@ impl<S: Storage, Q: Quorum, E: Entry> Cluster<S, Q, E> {
     {
         let site = self.site(i)?;
         let message = self.table.record(i).resend(&site)?;
-        Ok(self.broadcast(message))
+        Ok(self.broadcast(self.replicas(), message))
     }
 
     // A replica goes down.
@@ -148,7 +152,7 @@ impl<S: Storage, Q: Quorum, E: Entry> Cluster<S, Q, E> {
     {
         let site = self.site(i)?;
         let reaction = self.table.lend(i).recover(&mut self.storage, site.own)?;
-        Ok(self.accept(reaction))
+        Ok(self.accept(self.replicas(), reaction))
     }
 
     // The message at a place is lost.
@@ -190,6 +194,6 @@ impl<S: Storage, Q: Quorum, E: Entry> Cluster<S, Q, E> {
             .table
             .lend(receiver)
             .receive(&mut self.storage, &self.quorum, message)?;
-        Ok(self.accept(reaction))
+        Ok(self.accept(self.replicas(), reaction))
     }
 }
