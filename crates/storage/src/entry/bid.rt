@@ -22,7 +22,7 @@ const SORT: u64 = 72_057_594_037_927_936;
 impl Entry for Bid {
     const KIND: u8 = 1;
 
-    ghost kind = { 1 };
+    ghost KIND = { 1 };
 
     ghost blank = { open_bid };
 
@@ -37,10 +37,6 @@ impl Entry for Bid {
     ghost zero = { Prim.search rules };
 
     ghost fits = { Prim.search rules };
-
-    fn kind_number() -> u8 {
-        Self::KIND
-    }
 
     fn blank() -> Bid {
         Self::Open

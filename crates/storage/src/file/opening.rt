@@ -64,11 +64,11 @@ fn pair_fits(bytes: &[u8], n: usize, i: usize) -> bool
 
 // How many replicas the file has. It judges no record: any 36 bytes are one.
 pub fn open<E: Entry>(bytes: &[u8]) -> Result<usize, OpenRefusal>
-    ensures answer { result ≡ opened E.kind bytes.now }
-    ensures only { is_ok result ≡ true → Accepted E.kind bytes.now }
-    ensures every { Accepted E.kind bytes.now → result ≡ Ok (count_in bytes.now) }
+    ensures answer { result ≡ opened E.KIND bytes.now }
+    ensures only { is_ok result ≡ true → Accepted E.KIND bytes.now }
+    ensures every { Accepted E.KIND bytes.now → result ≡ Ok (count_in bytes.now) }
     ensures pair { NamesWrong bytes.now result }
-    ensures same { is_ok result ≡ true → file_of (count_in bytes.now) E.kind (record_in bytes.now (count_in bytes.now)) ≡ bytes.now }
+    ensures same { is_ok result ≡ true → file_of (count_in bytes.now) E.KIND (record_in bytes.now (count_in bytes.now)) ≡ bytes.now }
 {
     let [count, kind, zero_a, zero_b, rest @ ..] = bytes else {
         return Err(OpenRefusal::Length);
@@ -80,7 +80,7 @@ pub fn open<E: Entry>(bytes: &[u8]) -> Result<usize, OpenRefusal>
     if rest.len() != 44 * n {
         return Err(OpenRefusal::Length);
     }
-    if *kind != E::kind_number() {
+    if *kind != E::KIND {
         return Err(OpenRefusal::Kind);
     }
     match wrong_pair(bytes, n) {

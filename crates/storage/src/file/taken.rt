@@ -31,9 +31,9 @@ impl FileStorage {
     // A storage over the bytes of a file. Bytes that `open` refuses are one of 0 replicas.
     pub fn take<E: Entry>(bytes: Vec<u8>) -> FileStorage
         ensures bytes { result.bytes ≡ bytes }
-        ensures count { result.count ≡ result_unwrap_or (opened E.kind bytes.items) 0 }
-        ensures file { Accepted E.kind bytes.items → result.count ≡ count_in bytes.items }
-        ensures same { Accepted E.kind bytes.items → file_of result.count E.kind (records_with (page_in bytes.items result.count) (left_in bytes.items result.count)) ≡ bytes.items }
+        ensures count { result.count ≡ result_unwrap_or (opened E.KIND bytes.items) 0 }
+        ensures file { Accepted E.KIND bytes.items → result.count ≡ count_in bytes.items }
+        ensures same { Accepted E.KIND bytes.items → file_of result.count E.KIND (records_with (page_in bytes.items result.count) (left_in bytes.items result.count)) ≡ bytes.items }
     {
         let count = open::<E>(&bytes).unwrap_or(0);
         FileStorage { bytes, count }

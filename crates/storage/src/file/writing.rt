@@ -41,11 +41,11 @@ fn fitting(n: usize, size: usize) -> Result<(), WriteRefusal>
 // changes nothing.
 pub fn write_blank<E: Entry>(n: usize, stores: u32, buffer: &mut [u8]) -> Result<(), WriteRefusal>
     ensures answer { result ≡ writable n (length buffer.old) }
-    ensures bytes { buffer.new ≡ (if is_ok result then file_of n E.kind (λ _. blank_cell stores) else buffer.old) }
-    ensures kept { is_ok result ≡ true → Keeps n E.kind (λ _. blank_cell stores) buffer.new }
+    ensures bytes { buffer.new ≡ (if is_ok result then file_of n E.KIND (λ _. blank_cell stores) else buffer.old) }
+    ensures kept { is_ok result ≡ true → Keeps n E.KIND (λ _. blank_cell stores) buffer.new }
 {
     fitting(n, buffer.len())?;
-    fill_blank(buffer, n, E::kind_number(), stores);
+    fill_blank(buffer, n, E::KIND, stores);
     Ok(())
 }
 
@@ -53,10 +53,10 @@ pub fn write_blank<E: Entry>(n: usize, stores: u32, buffer: &mut [u8]) -> Result
 // changes nothing.
 pub fn write<E: Entry, S: Storage>(storage: &S, buffer: &mut [u8]) -> Result<(), WriteRefusal>
     ensures answer { result ≡ writable (S.replicas storage.now) (length buffer.old) }
-    ensures bytes { buffer.new ≡ (if is_ok result then file_of (S.replicas storage.now) E.kind (records_with (S.page storage.now) (S.left storage.now)) else buffer.old) }
-    ensures kept { is_ok result ≡ true → Keeps (S.replicas storage.now) E.kind (records_with (S.page storage.now) (S.left storage.now)) buffer.new }
+    ensures bytes { buffer.new ≡ (if is_ok result then file_of (S.replicas storage.now) E.KIND (records_with (S.page storage.now) (S.left storage.now)) else buffer.old) }
+    ensures kept { is_ok result ≡ true → Keeps (S.replicas storage.now) E.KIND (records_with (S.page storage.now) (S.left storage.now)) buffer.new }
 {
     fitting(storage.replicas(), buffer.len())?;
-    fill_stored(buffer, E::kind_number(), storage);
+    fill_stored(buffer, E::KIND, storage);
     Ok(())
 }

@@ -32,7 +32,7 @@ impl Span {
 impl Entry for Span {
     const KIND: u8 = 2;
 
-    ghost kind = { 2 };
+    ghost KIND = { 2 };
 
     ghost blank = { no_span };
 
@@ -47,10 +47,6 @@ impl Entry for Span {
     ghost zero = { Prim.search rules };
 
     ghost fits = { Prim.search rules };
-
-    fn kind_number() -> u8 {
-        Self::KIND
-    }
 
     fn blank() -> Span {
         Span::empty()
