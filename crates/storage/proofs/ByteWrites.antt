@@ -1,5 +1,5 @@
 -- Bytes written over others: what is read of them. Assumes nothing.
-use Rattle.std.proofs.Common.{◌≡◌, ℕ, ◌+◌, ◌-◌, ◌≤◌, List, [], ◌++◌, length, take, drop, sym, refl, ap, ◌∙◌, append_assoc, append-nil, add-zero, arith, length-append, length-drop, length-take-le, drop-drop, take_at, drop_at}
+use Rattle.std.proofs.Common.{◌≡◌, ℕ, ◌+◌, ◌-◌, ◌≤◌, List, [], ◌++◌, length, take, drop, sym, refl, ap, ◌∙◌, ap₂, append_assoc, append-nil, add-zero, arith, length-append, length-drop, length-take-le, drop-drop, take_at, drop_at}
 use lib.Seq.{take-length}
 use borrow.Rule.Slice.PartMut.{put_mid}
 use Rattle.std.proofs.lemmas.List.{drop_all, drop-append-le, take-append-drop, take-append-le}
@@ -53,9 +53,16 @@ module _ (bs : List ℕ) (k : ℕ) (ys : List ℕ) (fits : k + length ys ≤ len
       sym (drop-drop (length zs) m (overwritten bs k ys)) ∙ ap (drop (length zs)) (behind m e) ∙ drop-drop (length zs) (k + length ys) bs ∙ ap (λ (n : ℕ). drop n bs) (omega (arith, length-append ys zs)) in
       rw (start, rest) (simp append_assoc)
 
+-- now is bs with ys written over it from k on
+pub record Wrote (bs : List ℕ) (k : ℕ) (ys now : List ℕ) : Type 0 where
+  pub is : now ≡ overwritten bs k ys
+
+pub wrote : {bs ys : List ℕ} {k : ℕ} (xs now : List ℕ) → now ≡ overwritten bs k xs → xs ≡ ys → Wrote bs k ys now
+wrote {bs} {ys} {k} xs now e f = record { is = e ∙ ap (overwritten bs k) f }
+
 -- one more write, where those before it end
-pub write_more : (bs : List ℕ) (k : ℕ) (ys : List ℕ) (m : ℕ) (zs was next : List ℕ) → was ≡ overwritten bs k ys → next ≡ overwritten was m zs → m ≡ k + length ys → k + length ys ≤ length bs → next ≡ overwritten bs k (ys ++ zs)
-write_more bs k ys m zs was next e f at fits = f ∙ ap (λ (l : List ℕ). overwritten l m zs) e ∙ write_write bs k ys fits m zs at
+pub wrote_more : {bs ys was zs : List ℕ} {k : ℕ} → Wrote bs k ys was → (m : ℕ) (xs next : List ℕ) → next ≡ overwritten was m xs → xs ≡ zs → m ≡ k + length ys → k + length ys ≤ length bs → Wrote bs k (ys ++ zs) next
+wrote_more {bs} {ys} {was} {zs} {k} w m xs next e f at fits = record { is = e ∙ ap₂ (λ (l r : List ℕ). overwritten l m r) w.is f ∙ write_write bs k ys fits m zs at }
 
 -- nothing written changes nothing
 pub write_none : (bs : List ℕ) (k : ℕ) → overwritten bs k [] ≡ bs

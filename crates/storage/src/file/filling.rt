@@ -5,7 +5,7 @@ ghost use Rattle.storage.specs.Files.{Keeps, file_length, file_of, head_bytes, p
 ghost use Rattle.storage.specs.Memories.{blank_cell};
 ghost use Rattle.storage.specs.Records.{Fit, records_with};
 
-use crate::file::numbers::put_u32;
+use crate::file::parts::put;
 use crate::file::records::put_record;
 use crate::page::Page;
 use crate::stable::Storage;
@@ -18,8 +18,12 @@ fn put_pair(bytes: &mut [u8], n: usize, i: usize)
     requires room { 4 + 8 * n ≤ length bytes.old }
     ensures { bytes.new ≡ overwritten bytes.old (4 + 8 * i) (pair_bytes n i) }
 {
-    put_u32(bytes, 4 + 8 * i, (4 + 8 * n + 36 * i) as u32);
-    put_u32(bytes, 8 + 8 * i, 36);
+    put(
+        bytes,
+        4 + 8 * i,
+        &((4 + 8 * n + 36 * i) as u32).to_le_bytes(),
+    );
+    put(bytes, 8 + 8 * i, &36u32.to_le_bytes());
 }
 
 // The pairs of all n replicas.
@@ -39,7 +43,7 @@ fn put_front(bytes: &mut [u8], n: usize, kind: u8)
     requires room { 4 + 8 * n ≤ length bytes.old }
     ensures { bytes.new ≡ overwritten bytes.old 0 (head_bytes n kind ++ pairs_bytes n) }
 {
-    bytes[0..4].copy_from_slice(&[n as u8, kind, 0, 0]);
+    put(bytes, 0, &[n as u8, kind, 0, 0]);
     put_pairs(bytes, n);
 }
 

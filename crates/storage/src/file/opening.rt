@@ -4,7 +4,7 @@ ghost use Rattle.storage.specs.Files.{Accepted, RightPair, count_in, file_held, 
 ghost use Rattle.storage.specs.Opened.{NamesWrong, open_number, opened, pair_fits, wrong_pair};
 
 use crate::entry::Entry;
-use crate::file::numbers::u32_at;
+use crate::file::parts::bytes_at;
 
 // Why bytes are no file for a kind of entry.
 #[derive(Clone, Copy)]
@@ -57,8 +57,8 @@ fn pair_fits(bytes: &[u8], n: usize, i: usize) -> bool
     requires inside { i < n }
     ensures { result ≡ pair_fits bytes.now i }
 {
-    let offset = u32_at(bytes, 4 + 8 * i) as usize;
-    let size = u32_at(bytes, 8 + 8 * i);
+    let offset = u32::from_le_bytes(bytes_at(bytes, 4 + 8 * i)) as usize;
+    let size = u32::from_le_bytes(bytes_at(bytes, 8 + 8 * i));
     offset == 4 + 8 * n + 36 * i && size == 36
 }
 
