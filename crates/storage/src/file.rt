@@ -1,5 +1,6 @@
 // The lot transfer file: the pages of a storage, and the stores that each has left, as bytes.
 mod filling;
+mod layout;
 pub mod opening;
 mod parts;
 mod records;
