@@ -11,7 +11,7 @@ use crate::file::layout::Layout;
 use crate::stable::Storage;
 
 // Why no file was written; the discriminant is the number of the refusal.
-#[derive(Clone, Copy)]
+#[derive(Clone, Copy, PartialEq, Eq, Debug)]
 pub enum WriteRefusal {
     Length = 1,
     ReplicaCount = 5,
