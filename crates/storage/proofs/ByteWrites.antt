@@ -1,7 +1,7 @@
 -- Bytes written over others: what is read of them. Assumes nothing.
-use Rattle.std.proofs.Common.{◌≡◌, ℕ, ◌+◌, ◌-◌, ◌≤◌, List, [], ◌++◌, length, take, drop, sym, refl, ap, ◌∙◌, ap₂, append-nil, add-zero, arith, length-append, length-take-le, drop-drop, take_at, drop_at}
+use Rattle.std.proofs.Common.{◌≡◌, ℕ, ◌+◌, ◌-◌, ◌≤◌, List, ◌++◌, length, take, drop, sym, refl, ap, ◌∙◌, ap₂, append-nil, arith, length-append, length-take-le, drop-drop, take_at, drop_at}
 use Rattle.std.proofs.Math.Seq.{paste}
-use Rattle.std.proofs.lemmas.List.{drop_all, take-append-drop}
+use Rattle.std.proofs.lemmas.List.{drop_all}
 use Rattle.std.proofs.lemmas.List.Edits.{drop-paste, length-paste, paste-paste, paste_all}
 use Rattle.storage.proofs.ByteParts.{sub_part}
 use Rattle.storage.specs.ByteNumbers.{overwritten, part}
@@ -54,10 +54,6 @@ wrote {bs} {ys} {k} xs now e f = record { is = e ∙ ap (overwritten bs k) f }
 -- one more write, where those before it end
 pub wrote_more : {bs ys was zs : List ℕ} {k : ℕ} → Wrote bs k ys was → (m : ℕ) (xs next : List ℕ) → next ≡ overwritten was m xs → xs ≡ zs → m ≡ k + length ys → k + length ys ≤ length bs → Wrote bs k (ys ++ zs) next
 wrote_more {bs} {ys} {was} {zs} {k} w m xs next e f at fits = record { is = e ∙ ap₂ (λ (l r : List ℕ). overwritten l m r) w.is f ∙ write_write bs k ys fits m zs at }
-
--- nothing written changes nothing
-pub write_none : (bs : List ℕ) (k : ℕ) → overwritten bs k [] ≡ bs
-write_none bs k = rw add-zero (take-append-drop k bs)
 
 -- as many bytes as there are, written from the first on, are what is there then
 pub write_all : (bs ys : List ℕ) → length bs ≡ length ys → overwritten bs 0 ys ≡ ys

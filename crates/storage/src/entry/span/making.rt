@@ -17,16 +17,6 @@ impl Span {
             None
         }
     }
-
-    // The span of a register that was never written.
-    fn empty() -> Span
-        ensures { result ≡ no_span }
-    {
-        Span {
-            offset: 0,
-            length: 0,
-        }
-    }
 }
 
 impl Entry for Span {
@@ -49,7 +39,10 @@ impl Entry for Span {
     ghost fits = { Prim.search rules };
 
     fn blank() -> Span {
-        Span::empty()
+        Span {
+            offset: 0,
+            length: 0,
+        }
     }
 
     fn code(&self) -> u64 {
