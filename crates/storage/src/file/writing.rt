@@ -26,7 +26,7 @@ impl WriteRefusal {
 }
 
 // Writes the file that has these records. A refused call changes nothing.
-fn written<E: Entry, R: Records>(records: &R, buffer: &mut [u8]) -> Result<(), WriteRefusal>
+fn write_records<E: Entry, R: Records>(records: &R, buffer: &mut [u8]) -> Result<(), WriteRefusal>
     ensures answer { result ≡ writable (R.count records.now) (length buffer.old) }
     ensures bytes { buffer.new ≡ (if is_ok result then file_of (R.count records.now) E.KIND (R.cell records.now) else buffer.old) }
     ensures kept { is_ok result ≡ true → Keeps (R.count records.now) E.KIND (R.cell records.now) buffer.new }
@@ -46,7 +46,7 @@ pub fn write_blank<E: Entry>(n: usize, stores: u32, buffer: &mut [u8]) -> Result
     ensures bytes { buffer.new ≡ (if is_ok result then file_of n E.KIND (λ _. blank_cell stores) else buffer.old) }
     ensures kept { is_ok result ≡ true → Keeps n E.KIND (λ _. blank_cell stores) buffer.new }
 {
-    written::<E, Blank>(&Blank { count: n, stores }, buffer)
+    write_records::<E, Blank>(&Blank { count: n, stores }, buffer)
 }
 
 // Writes the file of a storage's pages and of the stores that they have left. A refused call
@@ -56,5 +56,5 @@ pub fn write<E: Entry, S: Storage>(storage: &S, buffer: &mut [u8]) -> Result<(),
     ensures bytes { buffer.new ≡ (if is_ok result then file_of (S.replicas storage.now) E.KIND (records_with (S.page storage.now) (S.left storage.now)) else buffer.old) }
     ensures kept { is_ok result ≡ true → Keeps (S.replicas storage.now) E.KIND (records_with (S.page storage.now) (S.left storage.now)) buffer.new }
 {
-    written::<E, S>(storage, buffer)
+    write_records::<E, S>(storage, buffer)
 }
