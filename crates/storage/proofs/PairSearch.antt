@@ -18,9 +18,10 @@ module _ (bs : List ℕ) (n : ℕ) where
   abbrev pub Says : Option ℕ → Type 0
   Says r = MatchOption r ((i : ℕ) → i < n → RightPair bs i) (λ i. (i < n) × (RightPair bs i → ⊥))
 
-  pub says : (r : Option ℕ) → MatchOption r ((k : ℕ) → 0 ≤ k → k < n → RightPair bs k) (λ i. (0 ≤ i) × (i < n) × (RightPair bs i → ⊥) × ((k : ℕ) → 0 ≤ k → k < i → RightPair bs k)) → Says r
-  says None h = λ k l. h k (omega arith) l
-  says (Some i) h = (h.1, h.2)
+  -- a search from lo on, where nothing lies below lo
+  pub says : (lo : ℕ) (r : Option ℕ) → MatchOption r ((k : ℕ) → lo ≤ k → k < n → RightPair bs k) (λ i. (lo ≤ i) × (i < n) × (RightPair bs i → ⊥) × ((k : ℕ) → lo ≤ k → k < i → RightPair bs k)) → lo ≤ 0 → Says r
+  says lo None h least = λ k l. h k (omega arith) l
+  says lo (Some i) h least = (h.1, h.2)
 
   pub if_none : {S : Type 0} (r : Option ℕ) → Says r → (((i : ℕ) → i < n → RightPair bs i) → S) → IfNone r S
   if_none None h f = f h

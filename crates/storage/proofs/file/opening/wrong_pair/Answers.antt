@@ -13,7 +13,7 @@ returns c =
     let bs = c.args.bytes.now in
     let n = c.args.layout.count in
     let wrong : ℕ → Bool = λ i. not (pair_fits bs i) in
-    let right = says bs n c.find.result (first_from_Range _ _ _ _ _ _ c.find.ensures.ran (λ x q k. wrong_from bs x (search rules)) (λ x q k. (search rules, right_from bs x (search rules)))) in
+    let right = says bs n _ c.find.result (first_from_Range _ _ _ _ _ _ c.find.ensures.ran (λ x q k. wrong_from bs x (search rules)) (λ x q k. (search rules, right_from bs x (search rules)))) (omega arith) in
     record {
       first = sym (option_map_id c.find.result) ∙ find_from_yields_List wrong _ _ _ c.find.ensures.ran (YieldsList-from_range 0 n n refl (omega arith)) (λ x b q k. search rules) ∙ ap (λ (m : ℕ). find wrong (range_with_len 0 m)) c.requires.count;
       right = right;
