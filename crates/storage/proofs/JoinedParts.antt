@@ -1,20 +1,20 @@
 -- Pieces of one width, one after the other. Assumes nothing.
-use Rattle.std.proofs.Common.{◌≡◌, ℕ, zero, suc, ◌+◌, ◌*◌, ◌<◌, List, ◌++◌, length, take, drop, sym, refl, ap, ◌∙◌, ap₂, append_assoc, append-nil, mul-suc, add-one, arith, length-append, drop-drop, take_at, drop_at}
+use Rattle.std.proofs.Common.{◌≡◌, ℕ, zero, suc, ◌+◌, ◌*◌, ◌<◌, List, [], ◌++◌, map, length, take, drop, sym, refl, ap, ◌∙◌, ap₂, append_assoc, mul-suc, arith, length-append, drop-drop, take_at, drop_at}
+use Rattle.std.proofs.lemmas.List.{flat_map_more}
+use Rattle.std.proofs.lemmas.List.Folds.{flat_map-map}
+use Rattle.std.proofs.lemmas.List.FromFn.{map-range_with_len_more}
 use Rattle.std.specs.List.{range_with_len, flat_map}
 use Rattle.storage.proofs.ByteParts.{part-part}
 use Rattle.storage.specs.ByteNumbers.{part}
 
-last_piece : (f : ℕ → List ℕ) (a n : ℕ) → flat_map f (range_with_len a (suc n)) ≡ flat_map f (range_with_len a n) ++ f (a + n)
-last_piece f a zero = append-nil (f a) ∙ ap f (omega arith)
-last_piece f a (suc n) =
-    ap (λ (l : List ℕ). f a ++ l) (last_piece f (a + 1) n)
-    ∙ sym (append_assoc (f a) (flat_map f (range_with_len (a + 1) n)) (f (a + 1 + n)))
-    ∙ ap (λ (j : ℕ). (f a ++ flat_map f (range_with_len (a + 1) n)) ++ f j) (omega arith)
-
 -- one piece more
 pub joined_more : (f : ℕ → List ℕ) (n : ℕ) → flat_map f (range_with_len 0 n) ++ f n ≡ flat_map f (range_with_len 0 (n + 1))
 joined_more f n =
-    ap (λ (j : ℕ). flat_map f (range_with_len 0 n) ++ f j) (omega arith) ∙ sym (last_piece f 0 n) ∙ ap (λ (j : ℕ). flat_map f (range_with_len 0 j)) (sym (add-one n))
+    let join : List (List ℕ) → List ℕ = flat_map (λ (l : List ℕ). l) in
+    ap (λ (l : List ℕ). l ++ f n) (sym (flat_map-map (λ (l : List ℕ). l) f (range_with_len 0 n)))
+    ∙ flat_map_more (λ (l : List ℕ). l) [] (map f (range_with_len 0 n)) (f n)
+    ∙ ap join (sym (map-range_with_len_more f 0 n n (omega arith)))
+    ∙ flat_map-map (λ (l : List ℕ). l) f (range_with_len 0 (n + 1))
 
 module _ (f : ℕ → List ℕ) (w : ℕ) where
   length_from : ((i : ℕ) → length (f i) ≡ w) → (a n : ℕ) → length (flat_map f (range_with_len a n)) ≡ w * n

@@ -1,10 +1,10 @@
 -- Numbers as bytes, lowest byte first, and bytes within bytes. Assumes nothing.
-use Rattle.std.specs.Prelude.{ℕ, zero, suc, ◌+◌, ◌*◌, ◌/◌, ◌%◌, List, [], ◌∷◌, ◌++◌, length, take, drop}
+use Rattle.std.specs.Prelude.{ℕ, ◌+◌, ◌*◌, List, [], ◌∷◌, ◌++◌, length, take, drop}
+use Rattle.std.specs.Int.{bytes_low_first}
 
 -- the lowest w bytes of n
 abbrev pub bytes_of : ℕ → ℕ → List ℕ
-bytes_of zero n = []
-bytes_of (suc w) n = n % 256 ∷ bytes_of w (n / 256)
+bytes_of w n = bytes_low_first 0 w n
 
 -- the number that bytes stand for
 abbrev pub number_of : List ℕ → ℕ

@@ -1,5 +1,6 @@
 -- What opening a file answers. Assumes nothing.
-use Rattle.std.specs.Prelude.{ℕ, zero, suc, ◌+◌, ◌*◌, ◌<◌, Bool, cond, ◌&&◌, List, length, Some, None, Ok, Err, Option, Result, ◌==◌, nat_lt, slice_index}
+use Rattle.std.specs.Prelude.{ℕ, ◌+◌, ◌*◌, ◌<◌, Bool, cond, ◌&&◌, not, List, length, Some, None, Ok, Err, Option, Result, ◌==◌, nat_lt, slice_index}
+use Rattle.std.specs.List.{find, range_with_len}
 use Rattle.storage.specs.ByteNumbers.{number_at}
 use Rattle.storage.specs.Files.{RightPair, count_in, file_length, kind_in, place}
 use Rattle.storage.specs.Memories.{count_fits}
@@ -20,14 +21,9 @@ head_fits bs = count_fits (count_in bs) && (slice_index bs 2 == 0 && slice_index
 abbrev pub pair_fits : List ℕ → ℕ → Bool
 pair_fits bs i = number_at bs (4 + 8 * i) 4 == place (count_in bs) i && number_at bs (8 + 8 * i) 4 == 36
 
--- the first wrong one of the m pairs from i on
-abbrev pub wrong_from : List ℕ → ℕ → ℕ → Option ℕ
-wrong_from bs i zero = None
-wrong_from bs i (suc m) = cond (pair_fits bs i) (wrong_from bs (i + 1) m) (Some i)
-
 -- the first wrong pair
 abbrev pub wrong_pair : List ℕ → Option ℕ
-wrong_pair bs = wrong_from bs 0 (count_in bs)
+wrong_pair bs = find (λ i. not (pair_fits bs i)) (range_with_len 0 (count_in bs))
 
 -- n replicas, unless a pair is wrong
 abbrev pub by_pairs : ℕ → Option ℕ → Result ℕ OpenRefusal

@@ -10,7 +10,7 @@ pub trait Entry: Copy {
     // The number of this kind, which no other kind has.
     const KIND: u8;
 
-    ghost kind: { ℕ };
+    ghost KIND: { ℕ };
 
     // the entry of a register that was never written
     ghost blank: { Self };
@@ -20,10 +20,6 @@ pub trait Entry: Copy {
 
     // the entry that a number stands for, if it stands for one
     ghost decoded: { ℕ → Option Self };
-
-    // `KIND`, as a contract can speak of it.
-    fn kind_number() -> u8
-        ensures { result ≡ kind };
 
     fn blank() -> Self
         ensures { result ≡ blank };

@@ -54,7 +54,7 @@ fn a_code_is_a_bids_or_nobodys(rt: HostRuntime) {
         }
     }
     assert_eq!(rt; Bid::blank().code(), 0);
-    assert_eq!(rt; <Bid as Entry>::kind_number(), 1);
+    assert_eq!(rt; <Bid as Entry>::KIND, 1);
 }
 
 #[test]
@@ -86,7 +86,7 @@ fn a_span_ends_within_32_bits_and_is_not_empty_past_0(rt: HostRuntime) {
         }
     }
     assert_eq!(rt; Span::blank().code(), 0);
-    assert_eq!(rt; <Span as Entry>::kind_number(), 2);
+    assert_eq!(rt; <Span as Entry>::KIND, 2);
 }
 
 #[test]

@@ -22,7 +22,7 @@ const SORT: u64 = 72_057_594_037_927_936;
 impl Entry for Bid {
     const KIND: u8 = 1;
 
-    ghost kind = { 1 };
+    ghost KIND = { 1 };
 
     ghost blank = { open_bid };
 
@@ -37,10 +37,6 @@ impl Entry for Bid {
     ghost zero = { Prim.search rules };
 
     ghost fits = { Prim.search rules };
-
-    fn kind_number() -> u8 {
-        Self::KIND
-    }
 
     fn blank() -> Bid {
         Self::Open
@@ -58,22 +54,16 @@ impl Entry for Bid {
     }
 
     fn decode(number: u64) -> Option<Bid> {
-        if number / SORT == 1 {
-            let rest = number % SORT;
-            if rest / 65_536 > 99_999 {
-                return None;
+        match (number / SORT, number % SORT) {
+            (0, 0) => Some(Bid::Open),
+            (1, rest) => {
+                let price = Price::new(u32::try_from(rest / 65_536).ok()?)?;
+                let buyer = Buyer::new((rest % 65_536) as u16)?;
+                Some(Bid::Offer { price, buyer })
             }
-            let price = Price::new((rest / 65_536) as u32)?;
-            let buyer = Buyer::new((rest % 65_536) as u16)?;
-            Some(Bid::Offer { price, buyer })
-        } else if number == 0 {
-            Some(Bid::Open)
-        } else if number == 2 * SORT {
-            Some(Bid::PassedIn)
-        } else if number == 3 * SORT {
-            Some(Bid::Withdrawn)
-        } else {
-            None
+            (2, 0) => Some(Bid::PassedIn),
+            (3, 0) => Some(Bid::Withdrawn),
+            _ => None,
         }
     }
 }

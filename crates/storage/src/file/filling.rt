@@ -1,99 +1,106 @@
 // The parts of a file, written into bytes that have room for it.
-ghost use Rattle.std.specs.Prelude.{◌≡◌, ℕ, ◌+◌, ◌*◌, ◌<◌, ◌≤◌, ◌++◌, length};
+ghost use Rattle.std.specs.Prelude.{◌≡◌, ℕ, ◌+◌, ◌*◌, ◌<◌, ◌≤◌, length};
 ghost use Rattle.storage.specs.ByteNumbers.{overwritten};
-ghost use Rattle.storage.specs.Files.{Keeps, file_length, file_of, head_bytes, pair_bytes, pairs_bytes, records_bytes};
+ghost use Rattle.storage.specs.Files.{Keeps, file_length, file_of, pairs_bytes, records_bytes};
 ghost use Rattle.storage.specs.Memories.{blank_cell};
 ghost use Rattle.storage.specs.Records.{Fit, records_with};
+ghost use Rattle.storage.specs.declared.stable.memory.Cell.{Cell as CellOf};
 
-use crate::file::numbers::put_u32;
+use crate::file::layout::Layout;
+use crate::file::parts::put;
 use crate::file::records::put_record;
 use crate::page::Page;
 use crate::stable::Storage;
 use crate::stable::memory::Cell;
 
-// The pair of replica i.
-fn put_pair(bytes: &mut [u8], n: usize, i: usize)
-    requires few { n ≤ 15 }
-    requires inside { i < n }
-    requires room { 4 + 8 * n ≤ length bytes.old }
-    ensures { bytes.new ≡ overwritten bytes.old (4 + 8 * i) (pair_bytes n i) }
-{
-    put_u32(bytes, 4 + 8 * i, (4 + 8 * n + 36 * i) as u32);
-    put_u32(bytes, 8 + 8 * i, 36);
+// The records that a file is written with, one for each replica.
+pub(crate) trait Records {
+    ghost count: { Self → ℕ };
+
+    ghost cell: { Self → ℕ → CellOf };
+
+    fn count(&self) -> usize
+        ensures { result ≡ count self.now };
+
+    fn cell(&self, i: usize) -> Cell
+        requires { i < count self.now }
+        ensures { result ≡ cell self.now i };
 }
 
-// The pairs of all n replicas.
-fn put_pairs(bytes: &mut [u8], n: usize)
-    requires few { n ≤ 15 }
-    requires room { 4 + 8 * n ≤ length bytes.old }
-    ensures { bytes.new ≡ overwritten bytes.old 4 (pairs_bytes n) }
-{
-    for i in 0..n {
-        put_pair(bytes, n, i);
+// Those of replicas that have stored nothing and may store so often.
+#[derive(Clone, Copy)]
+pub(crate) struct Blank {
+    pub(crate) count: usize,
+    pub(crate) stores: u32,
+}
+
+impl Records for Blank {
+    ghost count = { λ b. b.count };
+
+    ghost cell = { λ b _. blank_cell b.stores };
+
+    fn count(&self) -> usize {
+        self.count
+    }
+
+    fn cell(&self, _i: usize) -> Cell {
+        Cell {
+            page: Page::BLANK,
+            left: self.stores,
+        }
     }
 }
 
-// What stands before the records: the head and the pairs.
-fn put_front(bytes: &mut [u8], n: usize, kind: u8)
-    requires few { n ≤ 15 }
-    requires room { 4 + 8 * n ≤ length bytes.old }
-    ensures { bytes.new ≡ overwritten bytes.old 0 (head_bytes n kind ++ pairs_bytes n) }
-{
-    bytes[0..4].copy_from_slice(&[n as u8, kind, 0, 0]);
-    put_pairs(bytes, n);
-}
+// Those of a storage.
+impl<S: Storage> Records for S {
+    ghost count = { S.replicas };
 
-// n blank records with so many stores left.
-fn put_blank(bytes: &mut [u8], n: usize, stores: u32)
-    requires few { n ≤ 15 }
-    requires room { file_length n ≤ length bytes.old }
-    ensures after { bytes.new ≡ overwritten bytes.old (4 + 8 * n) (records_bytes (λ _. blank_cell stores) n) }
-    ensures fits { (i : ℕ) → i < n → Fit (blank_cell stores) }
-{
-    let cell = Cell {
-        page: Page::BLANK,
-        left: stores,
-    };
-    for i in 0..n {
-        put_record(bytes, 4 + 8 * n + 36 * i, cell);
+    ghost cell = { λ s. records_with (S.page s) (S.left s) };
+
+    fn count(&self) -> usize {
+        self.replicas()
+    }
+
+    fn cell(&self, i: usize) -> Cell {
+        let page = self.page(i).unwrap();
+        let left = self.stores_left(i).unwrap();
+        Cell { page, left }
     }
 }
 
-// The records of a storage.
-fn put_stored<S: Storage>(bytes: &mut [u8], storage: &S)
-    requires few { S.replicas storage.now ≤ 15 }
-    requires room { file_length (S.replicas storage.now) ≤ length bytes.old }
-    ensures after { bytes.new ≡ overwritten bytes.old (4 + 8 * S.replicas storage.now) (records_bytes (records_with (S.page storage.now) (S.left storage.now)) (S.replicas storage.now)) }
-    ensures fits { (i : ℕ) → i < S.replicas storage.now → Fit (records_with (S.page storage.now) (S.left storage.now) i) }
+// The pairs of all replicas.
+fn put_pairs(bytes: &mut [u8], layout: Layout)
+    requires { 4 + 8 * layout.count ≤ length bytes.old }
+    ensures { bytes.new ≡ overwritten bytes.old 4 (pairs_bytes layout.count) }
 {
-    let n = storage.replicas();
-    for i in 0..n {
-        let page = storage.page(i).unwrap();
-        let left = storage.stores_left(i).unwrap();
-        put_record(bytes, 4 + 8 * n + 36 * i, Cell { page, left });
+    // A range: the number says what the pair holds and where it lies.
+    for i in 0..layout.count {
+        put(bytes, 4 + 8 * i, &(layout.place(i) as u32).to_le_bytes());
+        put(bytes, 8 + 8 * i, &36u32.to_le_bytes());
     }
 }
 
-// The file of n replicas that have stored nothing and may store so often, over all the bytes.
-pub(crate) fn fill_blank(bytes: &mut [u8], n: usize, kind: u8, stores: u32)
-    requires some { 1 ≤ n }
-    requires few { n ≤ 15 }
-    requires size { length bytes.old ≡ file_length n }
-    ensures after { bytes.new ≡ file_of n kind (λ _. blank_cell stores) }
-    ensures kept { Keeps n kind (λ _. blank_cell stores) bytes.new }
+// The records of all replicas.
+fn put_records<R: Records>(bytes: &mut [u8], layout: Layout, records: &R)
+    requires count { layout.count ≡ R.count records.now }
+    requires room { file_length layout.count ≤ length bytes.old }
+    ensures after { bytes.new ≡ overwritten bytes.old (4 + 8 * layout.count) (records_bytes (R.cell records.now) layout.count) }
+    ensures fits { (i : ℕ) → i < layout.count → Fit (R.cell records.now i) }
 {
-    put_front(bytes, n, kind);
-    put_blank(bytes, n, stores);
+    // A range: the number says which record it is and where it lies.
+    for i in 0..layout.count {
+        put_record(bytes, layout.place(i), records.cell(i));
+    }
 }
 
-// The file of a storage, over all the bytes.
-pub(crate) fn fill_stored<S: Storage>(bytes: &mut [u8], kind: u8, storage: &S)
-    requires some { 1 ≤ S.replicas storage.now }
-    requires few { S.replicas storage.now ≤ 15 }
-    requires size { length bytes.old ≡ file_length (S.replicas storage.now) }
-    ensures after { bytes.new ≡ file_of (S.replicas storage.now) kind (records_with (S.page storage.now) (S.left storage.now)) }
-    ensures kept { Keeps (S.replicas storage.now) kind (records_with (S.page storage.now) (S.left storage.now)) bytes.new }
+// The file of a kind of entry with these records, over all the bytes.
+pub(crate) fn fill<R: Records>(bytes: &mut [u8], layout: Layout, kind: u8, records: &R)
+    requires count { layout.count ≡ R.count records.now }
+    requires size { length bytes.old ≡ file_length layout.count }
+    ensures after { bytes.new ≡ file_of layout.count kind (R.cell records.now) }
+    ensures kept { Keeps layout.count kind (R.cell records.now) bytes.new }
 {
-    put_front(bytes, storage.replicas(), kind);
-    put_stored(bytes, storage);
+    put(bytes, 0, &[layout.count as u8, kind, 0, 0]);
+    put_pairs(bytes, layout);
+    put_records(bytes, layout, records);
 }

@@ -3,7 +3,7 @@ ghost use Rattle.std.specs.Prelude.{◌≡◌, ◌+◌, ◌≤◌, length};
 ghost use Rattle.storage.specs.ByteNumbers.{overwritten};
 ghost use Rattle.storage.specs.Records.{Fit, record_at, record_bytes};
 
-use crate::file::numbers::{put_u32, put_u64, u32_at, u64_at};
+use crate::file::parts::{bytes_at, put};
 use crate::page::Page;
 use crate::stable::memory::Cell;
 use crate::timestamp::Timestamp;
@@ -14,19 +14,19 @@ pub(crate) fn record_at(bytes: &[u8], k: usize) -> Cell
     ensures { result ≡ record_at bytes.now k }
 {
     let written = Timestamp {
-        sequence: u32_at(bytes, k + 8),
-        replica: u32_at(bytes, k + 12),
+        sequence: u32::from_le_bytes(bytes_at(bytes, k + 8)),
+        replica: u32::from_le_bytes(bytes_at(bytes, k + 12)),
     };
     let page = Page {
-        incarnation: u32_at(bytes, k + 4),
+        incarnation: u32::from_le_bytes(bytes_at(bytes, k + 4)),
         written,
-        written_code: u64_at(bytes, k + 16),
-        intended_sequence: u32_at(bytes, k + 24),
-        intended_code: u64_at(bytes, k + 28),
+        written_code: u64::from_le_bytes(bytes_at(bytes, k + 16)),
+        intended_sequence: u32::from_le_bytes(bytes_at(bytes, k + 24)),
+        intended_code: u64::from_le_bytes(bytes_at(bytes, k + 28)),
     };
     Cell {
         page,
-        left: u32_at(bytes, k),
+        left: u32::from_le_bytes(bytes_at(bytes, k)),
     }
 }
 
@@ -36,11 +36,11 @@ pub(crate) fn put_record(bytes: &mut [u8], k: usize, cell: Cell)
     ensures after { bytes.new ≡ overwritten bytes.old k (record_bytes cell) }
     ensures fits { Fit cell }
 {
-    put_u32(bytes, k, cell.left);
-    put_u32(bytes, k + 4, cell.page.incarnation);
-    put_u32(bytes, k + 8, cell.page.written.sequence);
-    put_u32(bytes, k + 12, cell.page.written.replica);
-    put_u64(bytes, k + 16, cell.page.written_code);
-    put_u32(bytes, k + 24, cell.page.intended_sequence);
-    put_u64(bytes, k + 28, cell.page.intended_code);
+    put(bytes, k, &cell.left.to_le_bytes());
+    put(bytes, k + 4, &cell.page.incarnation.to_le_bytes());
+    put(bytes, k + 8, &cell.page.written.sequence.to_le_bytes());
+    put(bytes, k + 12, &cell.page.written.replica.to_le_bytes());
+    put(bytes, k + 16, &cell.page.written_code.to_le_bytes());
+    put(bytes, k + 24, &cell.page.intended_sequence.to_le_bytes());
+    put(bytes, k + 28, &cell.page.intended_code.to_le_bytes());
 }

@@ -2,14 +2,15 @@
 ghost use Rattle.std.specs.Prelude.{◌≡◌, ◌-◌, ◌<◌, ◌≤◌, is_ok, if◌then◌else◌, vec_len};
 ghost use Rattle.std.specs.Result.{result_unwrap_or};
 ghost use Rattle.storage.specs.ByteNumbers.{overwritten};
-ghost use Rattle.storage.specs.Files.{Accepted, count_in, file_held, file_length, file_of, file_stored, left_in, page_in, place};
+ghost use Rattle.storage.specs.Files.{Accepted, count_in, file_held, file_length, file_of, file_stored, left_in, page_in, place, record_in};
 ghost use Rattle.storage.specs.Opened.{opened};
 ghost use Rattle.storage.specs.Records.{record_bytes, records_with};
-ghost use Rattle.storage.specs.Storages.{stored, updated};
+ghost use Rattle.storage.specs.Storages.{answered, stored, updated};
 ghost use Rattle.std.proofs.Common.{rules};
 
 use crate::entry::Entry;
 use crate::fault::StorageFault;
+use crate::file::layout::Layout;
 use crate::file::opening::open;
 use crate::file::records::{put_record, record_at};
 use crate::page::Page;
@@ -31,9 +32,9 @@ impl FileStorage {
     // A storage over the bytes of a file. Bytes that `open` refuses are one of 0 replicas.
     pub fn take<E: Entry>(bytes: Vec<u8>) -> FileStorage
         ensures bytes { result.bytes ≡ bytes }
-        ensures count { result.count ≡ result_unwrap_or (opened E.kind bytes.items) 0 }
-        ensures file { Accepted E.kind bytes.items → result.count ≡ count_in bytes.items }
-        ensures same { Accepted E.kind bytes.items → file_of result.count E.kind (records_with (page_in bytes.items result.count) (left_in bytes.items result.count)) ≡ bytes.items }
+        ensures count { result.count ≡ result_unwrap_or (opened E.KIND bytes.items) 0 }
+        ensures file { Accepted E.KIND bytes.items → result.count ≡ count_in bytes.items }
+        ensures same { Accepted E.KIND bytes.items → file_of result.count E.KIND (records_with (page_in bytes.items result.count) (left_in bytes.items result.count)) ≡ bytes.items }
     {
         let count = open::<E>(&bytes).unwrap_or(0);
         FileStorage { bytes, count }
@@ -48,6 +49,25 @@ impl FileStorage {
         bytes
     }
 
+    // Where the record of replica i begins.
+    fn place(&self, i: usize) -> usize
+        requires { i < self.now.count }
+        ensures { result ≡ place self.now.count i }
+    {
+        Layout { count: self.count }.place(i)
+    }
+
+    // The record of replica i.
+    fn record(&self, i: usize) -> Result<Cell, StorageFault>
+        ensures { result ≡ answered self.now.count i (record_in self.now.bytes.items self.now.count i) }
+    {
+        if i < self.count {
+            Ok(record_at(&self.bytes, self.place(i)))
+        } else {
+            Err(StorageFault::no_such_replica(i))
+        }
+    }
+
     // Writes a record over the 36 bytes of replica i's.
     fn put(&mut self, i: usize, cell: Cell)
         requires { i < self.old.count }
@@ -56,7 +76,7 @@ impl FileStorage {
         ensures size { self.new.count ≡ self.old.count }
         ensures bytes { self.new.bytes.items ≡ overwritten self.old.bytes.items (place self.old.count i) (record_bytes cell) }
     {
-        let k = 4 + 8 * self.count + 36 * i;
+        let k = self.place(i);
         put_record(&mut self.bytes, k, cell);
     }
 }
@@ -77,19 +97,11 @@ impl Storage for FileStorage {
     }
 
     fn page(&self, i: usize) -> Result<Page, StorageFault> {
-        if i < self.count {
-            Ok(record_at(&self.bytes, 4 + 8 * self.count + 36 * i).page)
-        } else {
-            Err(StorageFault::no_such_replica(i))
-        }
+        Ok(self.record(i)?.page)
     }
 
     fn stores_left(&self, i: usize) -> Result<u32, StorageFault> {
-        if i < self.count {
-            Ok(record_at(&self.bytes, 4 + 8 * self.count + 36 * i).left)
-        } else {
-            Err(StorageFault::no_such_replica(i))
-        }
+        Ok(self.record(i)?.left)
     }
 
     // Of the bytes it changes the 36 of the record, and no other.
@@ -100,10 +112,7 @@ impl Storage for FileStorage {
         ensures size { self.new.count ≡ self.old.count }
         ensures bytes { self.new.bytes.items ≡ (if is_ok result then file_stored self.old.bytes.items self.old.count i new else self.old.bytes.items) }
     {
-        if i >= self.count {
-            return Err(StorageFault::no_such_replica(i));
-        }
-        let left = record_at(&self.bytes, 4 + 8 * self.count + 36 * i).left;
+        let left = self.record(i)?.left;
         if left == 0 {
             return Err(StorageFault::no_stores_left(i));
         }

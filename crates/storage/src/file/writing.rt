@@ -6,11 +6,12 @@ ghost use Rattle.storage.specs.Records.{records_with};
 ghost use Rattle.storage.specs.Written.{writable, write_number};
 
 use crate::entry::Entry;
-use crate::file::filling::{fill_blank, fill_stored};
+use crate::file::filling::{Blank, Records, fill};
+use crate::file::layout::Layout;
 use crate::stable::Storage;
 
 // Why no file was written; the discriminant is the number of the refusal.
-#[derive(Clone, Copy)]
+#[derive(Clone, Copy, PartialEq, Eq, Debug)]
 pub enum WriteRefusal {
     Length = 1,
     ReplicaCount = 5,
@@ -24,16 +25,17 @@ impl WriteRefusal {
     }
 }
 
-// Whether a file of n replicas fits so many bytes exactly.
-fn fitting(n: usize, size: usize) -> Result<(), WriteRefusal>
-    ensures { result ≡ writable n size }
+// Writes the file that has these records. A refused call changes nothing.
+fn write_records<E: Entry, R: Records>(records: &R, buffer: &mut [u8]) -> Result<(), WriteRefusal>
+    ensures answer { result ≡ writable (R.count records.now) (length buffer.old) }
+    ensures bytes { buffer.new ≡ (if is_ok result then file_of (R.count records.now) E.KIND (R.cell records.now) else buffer.old) }
+    ensures kept { is_ok result ≡ true → Keeps (R.count records.now) E.KIND (R.cell records.now) buffer.new }
 {
-    if n < 1 || n > 15 {
-        return Err(WriteRefusal::ReplicaCount);
-    }
-    if size != 4 + 44 * n {
+    let layout = Layout::of(records.count()).ok_or(WriteRefusal::ReplicaCount)?;
+    if buffer.len() != layout.length() {
         return Err(WriteRefusal::Length);
     }
+    fill(buffer, layout, E::KIND, records);
     Ok(())
 }
 
@@ -41,22 +43,18 @@ fn fitting(n: usize, size: usize) -> Result<(), WriteRefusal>
 // changes nothing.
 pub fn write_blank<E: Entry>(n: usize, stores: u32, buffer: &mut [u8]) -> Result<(), WriteRefusal>
     ensures answer { result ≡ writable n (length buffer.old) }
-    ensures bytes { buffer.new ≡ (if is_ok result then file_of n E.kind (λ _. blank_cell stores) else buffer.old) }
-    ensures kept { is_ok result ≡ true → Keeps n E.kind (λ _. blank_cell stores) buffer.new }
+    ensures bytes { buffer.new ≡ (if is_ok result then file_of n E.KIND (λ _. blank_cell stores) else buffer.old) }
+    ensures kept { is_ok result ≡ true → Keeps n E.KIND (λ _. blank_cell stores) buffer.new }
 {
-    fitting(n, buffer.len())?;
-    fill_blank(buffer, n, E::kind_number(), stores);
-    Ok(())
+    write_records::<E, Blank>(&Blank { count: n, stores }, buffer)
 }
 
 // Writes the file of a storage's pages and of the stores that they have left. A refused call
 // changes nothing.
 pub fn write<E: Entry, S: Storage>(storage: &S, buffer: &mut [u8]) -> Result<(), WriteRefusal>
     ensures answer { result ≡ writable (S.replicas storage.now) (length buffer.old) }
-    ensures bytes { buffer.new ≡ (if is_ok result then file_of (S.replicas storage.now) E.kind (records_with (S.page storage.now) (S.left storage.now)) else buffer.old) }
-    ensures kept { is_ok result ≡ true → Keeps (S.replicas storage.now) E.kind (records_with (S.page storage.now) (S.left storage.now)) buffer.new }
+    ensures bytes { buffer.new ≡ (if is_ok result then file_of (S.replicas storage.now) E.KIND (records_with (S.page storage.now) (S.left storage.now)) else buffer.old) }
+    ensures kept { is_ok result ≡ true → Keeps (S.replicas storage.now) E.KIND (records_with (S.page storage.now) (S.left storage.now)) buffer.new }
 {
-    fitting(storage.replicas(), buffer.len())?;
-    fill_stored(buffer, E::kind_number(), storage);
-    Ok(())
+    write_records::<E, S>(storage, buffer)
 }

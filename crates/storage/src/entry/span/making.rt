@@ -17,22 +17,12 @@ impl Span {
             None
         }
     }
-
-    // The span of a register that was never written.
-    fn empty() -> Span
-        ensures { result ≡ no_span }
-    {
-        Span {
-            offset: 0,
-            length: 0,
-        }
-    }
 }
 
 impl Entry for Span {
     const KIND: u8 = 2;
 
-    ghost kind = { 2 };
+    ghost KIND = { 2 };
 
     ghost blank = { no_span };
 
@@ -48,12 +38,11 @@ impl Entry for Span {
 
     ghost fits = { Prim.search rules };
 
-    fn kind_number() -> u8 {
-        Self::KIND
-    }
-
     fn blank() -> Span {
-        Span::empty()
+        Span {
+            offset: 0,
+            length: 0,
+        }
     }
 
     fn code(&self) -> u64 {

@@ -1,5 +1,5 @@
-use Rattle.std.proofs.Common.{◌+◌, ◌∙◌, arith}
-use Rattle.storage.proofs.ByteParts.{number_in_part}
+use Rattle.std.proofs.Common.{◌+◌, refl, arith}
+use Rattle.storage.proofs.RecordBytes.{read}
 use Rattle.storage.specs.Records.{record_of}
 use Rattle.storage.proofs.file.records.record_at.Goals as goal
 
@@ -8,13 +8,13 @@ unfolding record_of
 returns c =
     let bs = c.args.bytes.now in
     let k = c.args.k in
-    let sequence = c.u32_at.ensures ∙ number_in_part bs k 36 8 4 (k + 8) (omega arith) (omega arith) in
-    let replica = c.u32_at-2.ensures ∙ number_in_part bs k 36 12 4 (k + 12) (omega arith) (omega arith) in
-    let incarnation = c.u32_at-3.ensures ∙ number_in_part bs k 36 4 4 (k + 4) (omega arith) (omega arith) in
-    let code = c.u64_at.ensures ∙ number_in_part bs k 36 16 8 (k + 16) (omega arith) (omega arith) in
-    let next_sequence = c.u32_at-4.ensures ∙ number_in_part bs k 36 24 4 (k + 24) (omega arith) (omega arith) in
-    let next_code = c.u64_at-2.ensures ∙ number_in_part bs k 36 28 8 (k + 28) (omega arith) (omega arith) in
-    let left = c.u32_at-5.ensures ∙ number_in_part bs k 36 0 4 k (omega arith) (omega arith) in
+    let sequence = read 3 bs _ k 8 (k + 8) _ c.from_le_bytes.ensures c.bytes_at.ensures refl (omega arith) c.requires in
+    let replica = read 3 bs _ k 12 (k + 12) _ c.from_le_bytes-2.ensures c.bytes_at-2.ensures refl (omega arith) c.requires in
+    let incarnation = read 3 bs _ k 4 (k + 4) _ c.from_le_bytes-3.ensures c.bytes_at-3.ensures refl (omega arith) c.requires in
+    let code = read 7 bs _ k 16 (k + 16) _ c.from_le_bytes-4.ensures c.bytes_at-4.ensures refl (omega arith) c.requires in
+    let next_sequence = read 3 bs _ k 24 (k + 24) _ c.from_le_bytes-5.ensures c.bytes_at-5.ensures refl (omega arith) c.requires in
+    let next_code = read 7 bs _ k 28 (k + 28) _ c.from_le_bytes-6.ensures c.bytes_at-6.ensures refl (omega arith) c.requires in
+    let left = read 3 bs _ k 0 k _ c.from_le_bytes-7.ensures c.bytes_at-7.ensures (omega arith) (omega arith) c.requires in
     λ j.
     record {
       page = record {
