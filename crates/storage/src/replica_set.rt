@@ -3,7 +3,7 @@ ghost use Rattle.std.specs.Prelude.{◌≡◌, ℕ, ◌≤◌, false, ◌&&◌, 
 ghost use Rattle.storage.specs.Weights.{counted};
 ghost use Rattle.storage.specs.ReplicaSets.{member, no_replicas, with_replica};
 
-#[derive(Clone, Copy)]
+#[derive(Clone, Copy, PartialEq, Eq, Debug)]
 pub struct ReplicaSet {
     held: [bool; 15],
 }
@@ -21,7 +21,7 @@ impl ReplicaSet {
     pub fn contains(&self, replica: usize) -> bool
         ensures { result ≡ member self.now replica }
     {
-        replica < 15 && self.held[replica]
+        self.held.get(replica) == Some(&true)
     }
 
     // Adds this replica: a number past 14 changes nothing.
@@ -46,12 +46,6 @@ impl ReplicaSet {
         ensures number { result ≡ counted (member self.now) end }
         ensures few { result ≤ end }
     {
-        let mut count = 0;
-        for replica in 0..end {
-            if self.contains(replica) {
-                count += 1;
-            }
-        }
-        count
+        (0..end).filter(|&replica| self.contains(replica)).count()
     }
 }
