@@ -1,5 +1,5 @@
 // A set of replicas, which are numbered 0 to 14.
-ghost use Rattle.std.specs.Prelude.{◌≡◌, ℕ, ◌≤◌, false, ◌&&◌, ◌||◌, ◌==◌, nat_lt};
+ghost use Rattle.std.specs.Prelude.{◌≡◌, ℕ, ◌<◌, ◌≤◌, true, false, ◌&&◌, ◌||◌, ◌==◌, nat_lt};
 ghost use Rattle.storage.specs.Weights.{counted};
 ghost use Rattle.storage.specs.ReplicaSets.{member, no_replicas, with_replica};
 
@@ -15,6 +15,13 @@ impl ReplicaSet {
         ensures members { (k : ℕ) → member result k ≡ false }
     {
         ReplicaSet { held: [false; 15] }
+    }
+
+    // The set that holds every replica.
+    pub(crate) fn all() -> ReplicaSet
+        ensures { (k : ℕ) → k < 15 → member result k ≡ true }
+    {
+        ReplicaSet { held: [true; 15] }
     }
 
     // Whether the set holds this replica: a number past 14 is in no set.

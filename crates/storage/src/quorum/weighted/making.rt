@@ -1,7 +1,8 @@
 // Making a rule of weights, and what it answers.
 ghost use Rattle.std.specs.Prelude.{◌≡◌};
 ghost use Rattle.storage.specs.Quorums.{weighted_of, weighted_enough};
-ghost use Rattle.storage.specs.Weights.{weight_at};
+ghost use Rattle.storage.specs.Weights.{weigh, weight_at};
+ghost use Rattle.storage.specs.ReplicaSets.{member};
 ghost use Rattle.storage.specs.Meeting.{heavy_laws};
 
 use super::Weighted;
@@ -34,6 +35,19 @@ impl Weighted {
     }
 }
 
+impl Weighted {
+    // What the replicas that a set holds weigh together.
+    fn weight_of(&self, set: &ReplicaSet) -> u16
+        ensures { result ≡ weigh (weight_at self.now.weights) (member set.now) self.now.replicas }
+    {
+        let weights = self.weights.as_slice();
+        (0..self.replicas)
+            .filter(|&replica| set.contains(replica))
+            .map(|replica| u16::from(weights.get(replica).copied().unwrap_or(0)))
+            .sum()
+    }
+}
+
 impl Quorum for Weighted {
     ghost size = { λ q. q.replicas };
 
@@ -56,15 +70,8 @@ impl Quorum for Weighted {
     }
 
     fn is_quorum(&self, set: &ReplicaSet) -> bool {
-        let mut total: usize = 0;
-        let mut held: usize = 0;
-        for replica in 0..self.replicas {
-            let weight = self.weights[replica] as usize;
-            total += weight;
-            if set.contains(replica) {
-                held += weight;
-            }
-        }
+        let held = u32::from(self.weight_of(set));
+        let total = u32::from(self.weight_of(&ReplicaSet::all()));
         2 * held > total
     }
 }
