@@ -85,10 +85,10 @@ heavy-most n f = ap (λ (t : ℕ). nat_lt t (2 * weigh one f n)) (weigh-all n)
 pub most_laws : (n : ℕ) → 1 ≤ n → Laws n (most n)
 most_laws n some = subst (Laws n) (fun_ext (heavy-most n)) (heavy_laws one n (omega (arith, weigh-all n)))
 
--- one turn of a loop that weighs f, at a replica that f holds
+-- one more replica, which f holds
 pub weigh_yes : (w : ℕ → ℕ) (f : ℕ → Bool) (n : ℕ) → f n ≡ true → weigh w f (n + 1) ≡ weigh w f n + w n
 weigh_yes w f n h = rw (add-one, h)
 
--- and at one that f does not hold
+-- and one that f does not hold
 pub weigh_no : (w : ℕ → ℕ) (f : ℕ → Bool) (n : ℕ) → f n ≡ false → weigh w f (n + 1) ≡ weigh w f n
 weigh_no w f n h = rw (add-one, h) (add-zero (weigh w f n))

@@ -7,7 +7,7 @@ ghost use Rattle.storage.specs.Meeting.{heavy_laws};
 
 use super::Weighted;
 use crate::quorum::Quorum;
-use crate::quorum::refusal::QuorumRefusal;
+use crate::quorum::refusal::{QuorumRefusal, check_count};
 use crate::replica_set::ReplicaSet;
 
 impl Weighted {
@@ -16,18 +16,12 @@ impl Weighted {
         ensures { result ≡ weighted_of weights.now }
     {
         let replicas = weights.len();
-        if replicas < 1 || replicas > 15 {
-            return Err(QuorumRefusal::ReplicaCount);
-        }
-        let mut padded = [0; 15];
-        let mut total: usize = 0;
-        for replica in 0..replicas {
-            padded[replica] = weights[replica];
-            total += weights[replica] as usize;
-        }
-        if total == 0 {
+        check_count(replicas)?;
+        if weights.iter().all(|weight| *weight == 0) {
             return Err(QuorumRefusal::Weightless);
         }
+        let mut padded = [0; 15];
+        padded[..replicas].copy_from_slice(weights);
         Ok(Weighted {
             weights: padded,
             replicas,
