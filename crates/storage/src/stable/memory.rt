@@ -63,7 +63,7 @@ impl MemoryStorage {
     pub fn blank(heap: Global, n: usize, stores: u32) -> Result<MemoryStorage, MakeError>
         ensures { MatchResult result (λ m. (count_fits n ≡ true) × (m.cells.items ≡ replicate n (blank_cell stores))) (λ e. e ≡ unmade n) }
     {
-        if n < 1 || n > 15 {
+        if !(1..=15).contains(&n) {
             return Err(MakeError::ReplicaCount);
         }
         let cell = Cell {

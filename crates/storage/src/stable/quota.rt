@@ -47,11 +47,7 @@ impl<S: Storage> QuotaStorage<S> {
     pub fn into_below(self) -> S
         ensures { result ≡ self.below }
     {
-        let QuotaStorage {
-            below,
-            allowances: _,
-        } = self;
-        below
+        self.below
     }
 }
 
@@ -83,14 +79,13 @@ impl<S: Storage> Storage for QuotaStorage<S> {
         if i >= self.below.replicas() {
             return Err(StorageFault::no_such_replica(i));
         }
-        let allowance = number_at(&self.allowances, i);
-        if allowance == 0 {
-            return Err(StorageFault::no_stores_left(i));
-        }
+        let left = number_at(&self.allowances, i)
+            .checked_sub(1)
+            .ok_or(StorageFault::no_stores_left(i))?;
         self.below
             .store(i, new)
             .map_err(|fault| fault.from_below())?;
-        self.allowances[i] = allowance - 1;
+        self.allowances[i] = left;
         Ok(())
     }
 }
