@@ -26,7 +26,7 @@ left_at cells i = (cell_at cells i).left
 abbrev pub cell_stored : ℕ → Cell → Page → Result Cell StorageFault
 cell_stored i c new = cond (nat_lt 0 c.left) (Ok (record { page = new; left = c.left - 1 })) (Err (no_stores i 0))
 
--- a storage is made for 1 to 15 replicas
+-- a storage is made for 1 to 15 replicas, and so is a quorum rule
 abbrev pub count_fits : ℕ → Bool
 count_fits n = nat_le 1 n && nat_le n 15
 

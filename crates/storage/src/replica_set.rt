@@ -5,6 +5,7 @@ ghost use Rattle.storage.specs.ReplicaSets.{member, no_replicas, with_replica};
 
 #[derive(Clone, Copy, PartialEq, Eq, Debug)]
 pub struct ReplicaSet {
+    // A row of fixed size: a set is Copy, and one is made without an allocator.
     held: [bool; 15],
 }
 

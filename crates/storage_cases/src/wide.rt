@@ -65,8 +65,11 @@ impl Storage for WideStorage {
     }
 
     fn store(&mut self, i: usize, new: Page) -> Result<(), StorageFault> {
-        let left = self.cell(i)?.left;
-        let left = left.checked_sub(1).ok_or(refused(Reason::NoStoresLeft, i))?;
+        let left = self
+            .cell(i)?
+            .left
+            .checked_sub(1)
+            .ok_or(refused(Reason::NoStoresLeft, i))?;
         self.cells[i] = Cell { page: new, left };
         Ok(())
     }

@@ -27,9 +27,7 @@ impl Weighted {
             replicas,
         })
     }
-}
 
-impl Weighted {
     // What the replicas that a set holds weigh together.
     fn weight_of(&self, set: &ReplicaSet) -> u16
         ensures { result ≡ weigh (weight_at self.now.weights) (member set.now) self.now.replicas }
