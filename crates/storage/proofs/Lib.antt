@@ -9,3 +9,4 @@ pub mod NumberBytes
 pub mod PairSearch
 pub mod QuorumMaking
 pub mod RecordBytes
+pub mod Weighing

@@ -1,14 +1,20 @@
 -- A rule that was made is the one of the specification. Assumes nothing.
-use Rattle.std.proofs.Common.{◌≡◌, ℕ, suc, ◌+◌, ◌-◌, ◌<◌, ◌≤◌, List, ◌++◌, length, get_or, take, set, replicate, Ok, Err, Result, sym, refl, ap, ◌∙◌, subst, append_assoc, arith}
+use Rattle.std.proofs.Common.{◌≡◌, ℕ, ◌-◌, ◌≤◌, Bool, true, false, List, ◌++◌, length, get_or, drop, replicate, sum, ◌==◌, Ok, Err, Result, sym, refl, ap, ◌∙◌, subst, arith}
+use Rattle.std.specs.List.{list_all, range_with_len}
+use Rattle.std.proofs.lemmas.Bool.{eqb-true, eqb-false}
+use Rattle.std.proofs.lemmas.List.Folds.{sum_by-zero}
+use Rattle.std.proofs.lemmas.List.FromFn.{fill_by_all}
+use Rattle.std.proofs.lemmas.List.Sums.{sum-map}
 use native.Mathlib.Decide.{dec_le}
 use native.Mathlib.Bridge.{le_prop}
-use Rattle.std.proofs.lemmas.List.{set_at, take_more, take_all, length-take-le, get_or_append_left}
+use Rattle.std.proofs.lemmas.List.{drop-replicate, get_or_append_left}
 use Rattle.storage.specs.Weights.{weigh, all, weight_at}
 use Rattle.storage.specs.Quorums.{replicas_within, majority_of, padded, total_weight, weighing, weighted_of}
 use Rattle.storage.specs.declared.quorum.majority.Majority.{Majority}
 use Rattle.storage.specs.declared.quorum.refusal.QuorumRefusal.{QuorumRefusal}
 use Rattle.storage.specs.declared.quorum.refusal.QuorumRefusal.TheVariants.{Weightless}
 use Rattle.storage.specs.Meeting.{weigh_same}
+use Rattle.storage.proofs.Weighing.{weigh_sum}
 
 -- 1 to 15 replicas are not refused for their number
 within : {X : Type 0} (n : ℕ) (make : 1 ≤ n → n ≤ 15 → Result X QuorumRefusal) (l : 1 ≤ n) (m : n ≤ 15) → replicas_within n make (dec_le 1 n) (dec_le n 15) ≡ make l m
@@ -23,25 +29,33 @@ within {X} n make l m = go (dec_le 1 n) (dec_le n 15)
 pub majority_made : (q : Majority) → majority_of q.replicas ≡ Ok q
 majority_made q = within q.replicas (λ l m. Ok (record { replicas = q.replicas; some = l; few = m })) q.some q.few
 
--- one turn of a loop that copies the weights into a row of fifteen zeros
-pub padded_more : (ws : List ℕ) (k : ℕ) → k < length ws → length ws ≤ 15 → set (take k ws ++ replicate (15 - k) 0) k (get_or ws k 0) ≡ take (k + 1) ws ++ replicate (15 - (k + 1)) 0
-padded_more ws k l m =
-    let e : 15 - k ≡ suc (15 - (k + 1)) = omega arith in
-    let n : length (take k ws) ≡ k = length-take-le k ws (omega arith) in
-    rw (e, take_more ws k 0 l, append_assoc) (set_at (take k ws) 0 (replicate (15 - (k + 1)) 0) (get_or ws k 0) k n)
+-- the weights, copied into the front of a row of fifteen zeros
+pub padded_row : (ws front : List ℕ) → front ≡ ws → padded ws ≡ front ++ drop (length ws) (replicate 15 0)
+padded_row ws front e = rw (e, drop-replicate {X = ℕ} (length ws) 15 0)
 
--- the zeros weigh nothing
-total_same : (ws : List ℕ) → weigh (weight_at ws) all (length ws) ≡ total_weight ws
-total_same ws =
-    weigh_same (weight_at ws) (weight_at (padded ws)) all all (length ws)
+-- a list is what its places hold, so that it weighs its sum; the zeros weigh nothing
+weighs_sum : (ws : List ℕ) → sum ws ≡ weigh (weight_at ws) all (length ws)
+weighs_sum ws =
+    ap sum (fill_by_all (λ k. get_or ws k 0) ws (length ws) 0 refl (λ k l. refl))
+    ∙ sum-map (weight_at ws) (range_with_len 0 (length ws))
+    ∙ weigh_sum (weight_at ws) all (length ws)
+
+total_sum : (ws : List ℕ) → sum ws ≡ total_weight ws
+total_sum ws =
+    weighs_sum ws
+    ∙ weigh_same (weight_at ws) (weight_at (padded ws)) all all (length ws)
     (λ k l. (sym (get_or_append_left ws (replicate (15 - length ws) 0) 0 k l), refl))
 
--- what the loop has at its end
-pub copied : (ws row : List ℕ) (k total : ℕ) → row ≡ take k ws ++ replicate (15 - k) 0 → total ≡ weigh (weight_at ws) all k → k ≡ length ws → (padded ws ≡ row) × (total ≡ total_weight ws)
-copied ws row k total r t e = (
-  sym (rw (e, take_all (length ws) ws (omega arith)) at r),
-  t ∙ ap (λ (n : ℕ). weigh (weight_at ws) all n) e ∙ total_same ws,
-)
+-- whether all weights are 0 is whether they weigh nothing together
+all_zero : (ws : List ℕ) → list_all (λ x. x == 0) ws ≡ (total_weight ws == 0)
+all_zero ws = sym (sum_by-zero (λ x. x) ws) ∙ ap (λ t. t == 0) (total_sum ws)
+
+-- and so what a search for another weight tells
+pub weightless : (ws : List ℕ) (b : Bool) → b ≡ list_all (λ x. x == 0) ws → b ≡ true → total_weight ws ≡ 0
+weightless ws b e h = eqb-true (total_weight ws) 0 (sym (e ∙ all_zero ws) ∙ h)
+
+pub weighty : (ws : List ℕ) (b : Bool) → b ≡ list_all (λ x. x == 0) ws → b ≡ false → 1 ≤ total_weight ws
+weighty ws b e h = omega (arith, eqb-false (total_weight ws) 0 (sym (e ∙ all_zero ws) ∙ h))
 
 module _ (ws : List ℕ) (l : 1 ≤ length ws) (m : length ws ≤ 15) where
   -- 1 to 15 weights are judged by what they weigh together

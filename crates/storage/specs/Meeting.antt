@@ -28,13 +28,10 @@ module _ (w : ℕ → ℕ) where
   module _ (f g : ℕ → Bool) where
     -- one more replica, which f holds if a and g holds if b
     step : (n : ℕ) (a b : Bool) → f n ≡ a → g n ≡ b → Shared f g n ⊎ (weigh w f n + weigh w g n ≤ weigh w all n) → Shared f g (suc n) ⊎ (weigh w f n + cond a (w n) 0 + (weigh w g n + cond b (w n) 0) ≤ weigh w all n + w n)
-    step n true true p q h = inl (n, omega arith, p, q)
-    step n true false p q (inl (k, h, x, y)) = inl (k, omega arith, x, y)
+    step n a b p q (inl (k, h, x, y)) = inl (k, omega arith, x, y)
+    step n true true p q (inr h) = inl (n, omega arith, p, q)
     step n true false p q (inr h) = inr (omega arith)
-    step n false true p q (inl (k, h, x, y)) = inl (k, omega arith, x, y)
-    step n false true p q (inr h) = inr (omega arith)
-    step n false false p q (inl (k, h, x, y)) = inl (k, omega arith, x, y)
-    step n false false p q (inr h) = inr (omega arith)
+    step n false b p q (inr h) = inr (grind arith)
 
     -- two sets share a replica, or weigh together no more than all
     meet : (n : ℕ) → Shared f g n ⊎ (weigh w f n + weigh w g n ≤ weigh w all n)
@@ -54,10 +51,8 @@ module _ (w : ℕ → ℕ) where
     grow (suc n) h = one_more (f n) (g n) (h n (omega arith)) (grow n (λ k l. h k (omega arith)))
       where
         one_more : (a b : Bool) → (a ≡ true → b ≡ true) → weigh w f n ≤ weigh w g n → weigh w f n + cond a (w n) 0 ≤ weigh w g n + cond b (w n) 0
-        one_more true true i l = omega arith
-        one_more true false i l = grind (arith, i refl)
-        one_more false true i l = omega arith
-        one_more false false i l = omega arith
+        one_more true b i l = rw (i refl) (omega arith)
+        one_more false b i l = grind arith
 
     -- and so what holds a set of more than half the weight has more than half
     heavy_more : (n : ℕ) → ((k : ℕ) → k < n → f k ≡ true → g k ≡ true) → heavy w n f ≡ true → heavy w n g ≡ true
@@ -85,10 +80,10 @@ heavy-most n f = ap (λ (t : ℕ). nat_lt t (2 * weigh one f n)) (weigh-all n)
 pub most_laws : (n : ℕ) → 1 ≤ n → Laws n (most n)
 most_laws n some = subst (Laws n) (fun_ext (heavy-most n)) (heavy_laws one n (omega (arith, weigh-all n)))
 
--- one turn of a loop that weighs f, at a replica that f holds
+-- one more replica, which f holds
 pub weigh_yes : (w : ℕ → ℕ) (f : ℕ → Bool) (n : ℕ) → f n ≡ true → weigh w f (n + 1) ≡ weigh w f n + w n
 weigh_yes w f n h = rw (add-one, h)
 
--- and at one that f does not hold
+-- and one that f does not hold
 pub weigh_no : (w : ℕ → ℕ) (f : ℕ → Bool) (n : ℕ) → f n ≡ false → weigh w f (n + 1) ≡ weigh w f n
 weigh_no w f n h = rw (add-one, h) (add-zero (weigh w f n))

@@ -1,5 +1,6 @@
 -- Which replicas a set holds, and which two sets share. Assumes nothing.
-use Rattle.std.specs.Prelude.{ℕ, zero, suc, Bool, true, false, cond, ◌&&◌, replicate, Some, None, Option, slice_index_or, slice_set}
+use Rattle.std.specs.Prelude.{ℕ, Bool, true, false, ◌&&◌, replicate, Option, slice_index_or, slice_set}
+use Rattle.std.specs.List.{find, range_with_len}
 use Rattle.storage.specs.declared.replica_set.ReplicaSet.{ReplicaSet}
 
 -- whether the set holds replica k
@@ -14,12 +15,6 @@ no_replicas = record { held = replicate 15 false }
 abbrev pub with_replica : ReplicaSet → ℕ → ReplicaSet
 with_replica s k = record { held = slice_set s.held k true }
 
--- what was found, or else k if it passes
-abbrev pub or_else : Option ℕ → Bool → ℕ → Option ℕ
-or_else (Some found) passes k = Some found
-or_else None passes k = cond passes (Some k) None
-
 -- the lowest replica below n that both sets hold
 abbrev pub lowest_shared : (ℕ → Bool) → (ℕ → Bool) → ℕ → Option ℕ
-lowest_shared f g zero = None
-lowest_shared f g (suc n) = or_else (lowest_shared f g n) (f n && g n) n
+lowest_shared f g n = find (λ k. f k && g k) (range_with_len 0 n)

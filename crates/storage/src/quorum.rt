@@ -48,10 +48,5 @@ pub fn shared_replica<Q: Quorum>(quorum: &Q, one: &ReplicaSet, other: &ReplicaSe
     ensures lowest { result ≡ lowest_shared (member one.now) (member other.now) (Q.size quorum.now) }
     ensures met { Q.enough quorum.now (member one.now) ≡ true → Q.enough quorum.now (member other.now) ≡ true → is_some result ≡ true }
 {
-    for replica in 0..quorum.replicas() {
-        if one.contains(replica) && other.contains(replica) {
-            return Some(replica);
-        }
-    }
-    None
+    (0..quorum.replicas()).find(|&replica| one.contains(replica) && other.contains(replica))
 }

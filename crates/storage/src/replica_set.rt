@@ -1,10 +1,11 @@
 // A set of replicas, which are numbered 0 to 14.
-ghost use Rattle.std.specs.Prelude.{◌≡◌, ℕ, ◌≤◌, false, ◌&&◌, ◌||◌, ◌==◌, nat_lt};
+ghost use Rattle.std.specs.Prelude.{◌≡◌, ℕ, ◌<◌, ◌≤◌, true, false, ◌&&◌, ◌||◌, ◌==◌, nat_lt};
 ghost use Rattle.storage.specs.Weights.{counted};
 ghost use Rattle.storage.specs.ReplicaSets.{member, no_replicas, with_replica};
 
-#[derive(Clone, Copy)]
+#[derive(Clone, Copy, PartialEq, Eq, Debug)]
 pub struct ReplicaSet {
+    // A row of fixed size: a set is Copy, and one is made without an allocator.
     held: [bool; 15],
 }
 
@@ -17,11 +18,18 @@ impl ReplicaSet {
         ReplicaSet { held: [false; 15] }
     }
 
+    // The set that holds every replica.
+    pub(crate) fn all() -> ReplicaSet
+        ensures { (k : ℕ) → k < 15 → member result k ≡ true }
+    {
+        ReplicaSet { held: [true; 15] }
+    }
+
     // Whether the set holds this replica: a number past 14 is in no set.
     pub fn contains(&self, replica: usize) -> bool
         ensures { result ≡ member self.now replica }
     {
-        replica < 15 && self.held[replica]
+        self.held.get(replica) == Some(&true)
     }
 
     // Adds this replica: a number past 14 changes nothing.
@@ -46,12 +54,6 @@ impl ReplicaSet {
         ensures number { result ≡ counted (member self.now) end }
         ensures few { result ≤ end }
     {
-        let mut count = 0;
-        for replica in 0..end {
-            if self.contains(replica) {
-                count += 1;
-            }
-        }
-        count
+        (0..end).filter(|&replica| self.contains(replica)).count()
     }
 }

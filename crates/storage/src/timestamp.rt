@@ -4,7 +4,7 @@ ghost use Rattle.storage.specs.Timestamps.{later, StrictTotal};
 
 // A register uses the sequences 0 to 999,999. A page of storage may hold any other number, so the
 // type does not forbid one.
-#[derive(Clone, Copy, PartialEq, Eq, Debug)]
+#[derive(Clone, Copy, PartialEq, Eq, PartialOrd, Ord, Debug)]
 pub struct Timestamp {
     pub sequence: u32,
     pub replica: u32,
@@ -25,7 +25,6 @@ impl Timestamp {
         ensures answer { result ≡ later self other }
         ensures order { StrictTotal later }
     {
-        self.sequence > other.sequence
-            || self.sequence == other.sequence && self.replica > other.replica
+        self > other
     }
 }

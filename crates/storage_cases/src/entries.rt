@@ -48,10 +48,10 @@ fn a_code_is_a_bids_or_nobodys(rt: HostRuntime) {
         (u64::MAX, false),
     ];
     for (code, there) in codes {
-        match Bid::decode(code) {
-            Some(bid) => assert!(rt; there && bid.code() == code),
-            None => assert!(rt; !there),
-        }
+        assert_eq!(rt;
+            Bid::decode(code).map(|bid| bid.code()),
+            there.then_some(code)
+        );
     }
     assert_eq!(rt; Bid::blank().code(), 0);
     assert_eq!(rt; <Bid as Entry>::KIND, 1);
@@ -73,17 +73,9 @@ fn a_span_ends_within_32_bits_and_is_not_empty_past_0(rt: HostRuntime) {
     ];
     for (offset, length, there) in spans {
         let code = (u64::from(offset) << 32) | u64::from(length);
-        match Span::decode(code) {
-            Some(span) => {
-                assert!(rt; there);
-                assert_eq!(rt; span.code(), code);
-                assert_eq!(rt; Span::new(offset, length), Some(span));
-            }
-            None => {
-                assert!(rt; !there);
-                assert_eq!(rt; Span::new(offset, length), None);
-            }
-        }
+        let span = Span::decode(code);
+        assert_eq!(rt; span, Span::new(offset, length));
+        assert_eq!(rt; span.map(|span| span.code()), there.then_some(code));
     }
     assert_eq!(rt; Span::blank().code(), 0);
     assert_eq!(rt; <Span as Entry>::KIND, 2);

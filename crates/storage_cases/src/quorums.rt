@@ -1,6 +1,6 @@
 // What the rules answer at the ends of their ranges.
 use std::test::Fail;
-use storage::{Majority, Quorum, ReplicaSet, Weighted, shared_replica};
+use storage::{Majority, Quorum, QuorumRefusal, ReplicaSet, Weighted, shared_replica};
 
 fn set_of(members: &[usize]) -> ReplicaSet {
     let mut set = ReplicaSet::empty();
@@ -10,17 +10,10 @@ fn set_of(members: &[usize]) -> ReplicaSet {
     set
 }
 
-// What a rule answers of a set: 1 or 0, or the number of the refusal.
-fn majority_says(replicas: usize, members: &[usize]) -> u8 {
-    match Majority::new(replicas) {
-        Ok(rule) => rule.is_quorum(&set_of(members)) as u8,
-        Err(refusal) => refusal.number(),
-    }
-}
-
-fn weights_say(weights: &[u8], members: &[usize]) -> u8 {
-    match Weighted::new(weights) {
-        Ok(rule) => rule.is_quorum(&set_of(members)) as u8,
+// What a rule answers of a set: 1 or 0, or the number of the refusal where no rule was made.
+fn says<Q: Quorum + Copy>(made: Result<Q, QuorumRefusal>, members: &[usize]) -> u8 {
+    match made {
+        Ok(rule) => u8::from(rule.is_quorum(&set_of(members))),
         Err(refusal) => refusal.number(),
     }
 }
@@ -41,7 +34,7 @@ fn majorities(rt: HostRuntime) {
         (16, &[0], 5),
     ];
     for (replicas, members, answer) in table {
-        assert_eq!(rt; majority_says(replicas, members), answer);
+        assert_eq!(rt; says(Majority::new(replicas), members), answer);
     }
 }
 
@@ -62,7 +55,7 @@ fn weights(rt: HostRuntime) {
         (&[0; 16], &[0], 5),
     ];
     for (weights, members, answer) in table {
-        assert_eq!(rt; weights_say(weights, members), answer);
+        assert_eq!(rt; says(Weighted::new(weights), members), answer);
     }
 }
 

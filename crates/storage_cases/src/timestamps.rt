@@ -21,6 +21,7 @@ fn later_is_by_sequence_and_then_by_replica(rt: HostRuntime) {
             replica: other_replica,
         };
         assert_eq!(rt; one.is_later(other), later);
+        assert_eq!(rt; one > other, later);
     }
     assert_eq!(rt;
         Timestamp::BLANK,

@@ -1,6 +1,7 @@
 // A storage of 20 replicas, more than a quota has allowances.
 ghost use Rattle.std.specs.Prelude.{◌≡◌};
-ghost use Rattle.storage.specs.Memories.{left_at, page_at};
+ghost use Rattle.storage.specs.Memories.{cell_at, left_at, page_at};
+ghost use Rattle.storage.specs.Storages.{answered};
 ghost use Rattle.std.proofs.Common.{rules};
 
 use storage::stable::memory::Cell;
@@ -17,6 +18,16 @@ impl WideStorage {
         WideStorage {
             cells: [Cell { page, left }; 20],
         }
+    }
+
+    // The place of a replica, if it has one.
+    fn cell(&self, i: usize) -> Result<Cell, StorageFault>
+        ensures { result ≡ answered 20 i (cell_at self.now.cells i) }
+    {
+        self.cells
+            .get(i)
+            .copied()
+            .ok_or(refused(Reason::NoSuchReplica, i))
     }
 }
 
@@ -46,33 +57,20 @@ impl Storage for WideStorage {
     }
 
     fn page(&self, i: usize) -> Result<Page, StorageFault> {
-        if i < 20 {
-            Ok(self.cells[i].page)
-        } else {
-            Err(refused(Reason::NoSuchReplica, i))
-        }
+        Ok(self.cell(i)?.page)
     }
 
     fn stores_left(&self, i: usize) -> Result<u32, StorageFault> {
-        if i < 20 {
-            Ok(self.cells[i].left)
-        } else {
-            Err(refused(Reason::NoSuchReplica, i))
-        }
+        Ok(self.cell(i)?.left)
     }
 
     fn store(&mut self, i: usize, new: Page) -> Result<(), StorageFault> {
-        if i >= 20 {
-            return Err(refused(Reason::NoSuchReplica, i));
-        }
-        let left = self.cells[i].left;
-        if left == 0 {
-            return Err(refused(Reason::NoStoresLeft, i));
-        }
-        self.cells[i] = Cell {
-            page: new,
-            left: left - 1,
-        };
+        let left = self
+            .cell(i)?
+            .left
+            .checked_sub(1)
+            .ok_or(refused(Reason::NoStoresLeft, i))?;
+        self.cells[i] = Cell { page: new, left };
         Ok(())
     }
 }

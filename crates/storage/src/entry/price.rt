@@ -3,7 +3,9 @@ ghost use Rattle.std.specs.Prelude.{◌≤◌};
 
 pub mod making;
 
-#[derive(Clone, Copy, PartialEq, Eq)]
+// Not one generic type with Buyer: their numbers are of two types, and a trait that told a clause
+// which number a value of either is would be longer than the second struct.
+#[derive(Clone, Copy, PartialEq, Eq, Debug)]
 pub struct Price {
     pub value: u32,
     ghost least: { 1 ≤ value },

@@ -1,5 +1,6 @@
 // Why no quorum rule was made.
-ghost use Rattle.std.specs.Prelude.{◌≡◌};
+ghost use Rattle.std.specs.Prelude.{◌≡◌, if◌then◌else◌};
+ghost use Rattle.storage.specs.Memories.{count_fits};
 ghost use Rattle.storage.specs.Quorums.{refusal_number};
 
 #[derive(Clone, Copy, PartialEq, Eq, Debug)]
@@ -16,5 +17,16 @@ impl QuorumRefusal {
         ensures { result ≡ refusal_number self }
     {
         self as u8
+    }
+}
+
+// Refuses a number of replicas that is not 1 to 15.
+pub(crate) fn check_count(replicas: usize) -> Result<(), QuorumRefusal>
+    ensures { result ≡ (if count_fits replicas then Ok tt else Err QuorumRefusal.ReplicaCount) }
+{
+    if (1..=15).contains(&replicas) {
+        Ok(())
+    } else {
+        Err(QuorumRefusal::ReplicaCount)
     }
 }

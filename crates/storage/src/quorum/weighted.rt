@@ -4,7 +4,8 @@ ghost use Rattle.storage.specs.Weights.{weigh, all, weight_at};
 
 pub mod making;
 
-// Past the replicas the weights are 0.
+// Past the replicas the weights are 0. The row is of fixed size, and no Vec: a rule is Copy, and
+// `new` takes no allocator.
 #[derive(Clone, Copy)]
 pub struct Weighted {
     weights: [u8; 15],

@@ -1,6 +1,7 @@
 // Stable storage as a table in memory.
 ghost use Rattle.std.specs.Prelude.{◌≡◌, true, replicate, vec_len, MatchResult};
-ghost use Rattle.storage.specs.Memories.{blank_cell, count_fits, left_at, made_number, page_at, unmade};
+ghost use Rattle.storage.specs.Memories.{blank_cell, cell_at, cell_stored, count_fits, left_at, made_number, page_at, unmade};
+ghost use Rattle.storage.specs.Storages.{answered};
 ghost use Rattle.storage.specs.declared.stable.memory.MakeError.TheVariants.{NoMemory};
 ghost use Rattle.std.proofs.Common.{rules};
 
@@ -14,6 +15,19 @@ use std::alloc::{AllocError, Global};
 pub struct Cell {
     pub page: Page,
     pub left: u32,
+}
+
+impl Cell {
+    // The cell of replica i after it stored a page, which takes one of its stores.
+    pub(crate) fn stored(self, i: usize, new: Page) -> Result<Cell, StorageFault>
+        ensures { result ≡ cell_stored i self new }
+    {
+        let left = self
+            .left
+            .checked_sub(1)
+            .ok_or(StorageFault::no_stores_left(i))?;
+        Ok(Cell { page: new, left })
+    }
 }
 
 #[derive(Drop)]
@@ -49,7 +63,7 @@ impl MemoryStorage {
     pub fn blank(heap: Global, n: usize, stores: u32) -> Result<MemoryStorage, MakeError>
         ensures { MatchResult result (λ m. (count_fits n ≡ true) × (m.cells.items ≡ replicate n (blank_cell stores))) (λ e. e ≡ unmade n) }
     {
-        if n < 1 || n > 15 {
+        if !(1..=15).contains(&n) {
             return Err(MakeError::ReplicaCount);
         }
         let cell = Cell {
@@ -58,6 +72,16 @@ impl MemoryStorage {
         };
         let cells = vec![in heap; cell; n]?;
         Ok(MemoryStorage { cells })
+    }
+
+    // The place of a replica, if it has one.
+    fn cell(&self, i: usize) -> Result<Cell, StorageFault>
+        ensures { result ≡ answered (vec_len self.now.cells) i (cell_at self.now.cells.items i) }
+    {
+        self.cells
+            .get(i)
+            .copied()
+            .ok_or(StorageFault::no_such_replica(i))
     }
 }
 
@@ -77,33 +101,16 @@ impl Storage for MemoryStorage {
     }
 
     fn page(&self, i: usize) -> Result<Page, StorageFault> {
-        if i < self.cells.len() {
-            Ok(self.cells[i].page)
-        } else {
-            Err(StorageFault::no_such_replica(i))
-        }
+        Ok(self.cell(i)?.page)
     }
 
     fn stores_left(&self, i: usize) -> Result<u32, StorageFault> {
-        if i < self.cells.len() {
-            Ok(self.cells[i].left)
-        } else {
-            Err(StorageFault::no_such_replica(i))
-        }
+        Ok(self.cell(i)?.left)
     }
 
     fn store(&mut self, i: usize, new: Page) -> Result<(), StorageFault> {
-        if i >= self.cells.len() {
-            return Err(StorageFault::no_such_replica(i));
-        }
-        let left = self.cells[i].left;
-        if left == 0 {
-            return Err(StorageFault::no_stores_left(i));
-        }
-        self.cells[i] = Cell {
-            page: new,
-            left: left - 1,
-        };
+        let cell = self.cell(i)?;
+        self.cells[i] = cell.stored(i, new)?;
         Ok(())
     }
 }

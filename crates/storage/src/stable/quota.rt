@@ -6,10 +6,12 @@ ghost use Rattle.std.proofs.Common.{rules};
 use crate::fault::StorageFault;
 use crate::page::Page;
 use crate::stable::Storage;
+use std::array;
 
 #[derive(Drop)]
 pub struct QuotaStorage<S> {
     below: S,
+    // A row of fixed size: `over` takes no allocator, and cannot fail.
     allowances: [u32; 15],
 }
 
@@ -18,18 +20,14 @@ fn number_at(numbers: &[u32], i: usize) -> u32
     ensures value { result ≡ slice_index numbers.now i }
     ensures within { 0 < result → i < length numbers.now }
 {
-    if i < numbers.len() { numbers[i] } else { 0 }
+    numbers.get(i).copied().unwrap_or(0)
 }
 
 // The allowances of replicas 0 to 14: those given, and 0 where none is.
 fn allowances_of(given: &[u32]) -> [u32; 15]
     ensures { result ≡ allowed given.now }
 {
-    let mut allowances = [0; 15];
-    for i in 0..15 {
-        allowances[i] = number_at(given, i);
-    }
-    allowances
+    array::from_fn(|i| number_at(given, i))
 }
 
 impl<S: Storage> QuotaStorage<S> {
@@ -49,11 +47,7 @@ impl<S: Storage> QuotaStorage<S> {
     pub fn into_below(self) -> S
         ensures { result ≡ self.below }
     {
-        let QuotaStorage {
-            below,
-            allowances: _,
-        } = self;
-        below
+        self.below
     }
 }
 
@@ -77,24 +71,21 @@ impl<S: Storage> Storage for QuotaStorage<S> {
     }
 
     fn stores_left(&self, i: usize) -> Result<u32, StorageFault> {
-        let left = self.below.stores_left(i)?;
-        Ok(left.min(number_at(&self.allowances, i)))
+        let allowance = number_at(&self.allowances, i);
+        self.below.stores_left(i).map(|left| left.min(allowance))
     }
 
     fn store(&mut self, i: usize, new: Page) -> Result<(), StorageFault> {
         if i >= self.below.replicas() {
             return Err(StorageFault::no_such_replica(i));
         }
-        let allowance = number_at(&self.allowances, i);
-        if allowance == 0 {
-            return Err(StorageFault::no_stores_left(i));
-        }
-        match self.below.store(i, new) {
-            Ok(()) => {
-                self.allowances[i] = allowance - 1;
-                Ok(())
-            }
-            Err(fault) => Err(fault.from_below()),
-        }
+        let left = number_at(&self.allowances, i)
+            .checked_sub(1)
+            .ok_or(StorageFault::no_stores_left(i))?;
+        self.below
+            .store(i, new)
+            .map_err(|fault| fault.from_below())?;
+        self.allowances[i] = left;
+        Ok(())
     }
 }

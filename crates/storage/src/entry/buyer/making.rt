@@ -8,7 +8,7 @@ impl Buyer {
     pub fn new(value: u16) -> Option<Buyer>
         ensures { result ≡ buyer_of value }
     {
-        if 1 <= value && value <= 999 {
+        if (1..=999).contains(&value) {
             Some(Buyer { value })
         } else {
             None

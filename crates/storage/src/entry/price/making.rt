@@ -8,7 +8,7 @@ impl Price {
     pub fn new(value: u32) -> Option<Price>
         ensures { result ≡ price_of value }
     {
-        if 1 <= value && value <= 99_999 {
+        if (1..=99_999).contains(&value) {
             Some(Price { value })
         } else {
             None

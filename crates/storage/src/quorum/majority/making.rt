@@ -5,7 +5,7 @@ ghost use Rattle.storage.specs.Meeting.{most_laws};
 
 use super::Majority;
 use crate::quorum::Quorum;
-use crate::quorum::refusal::QuorumRefusal;
+use crate::quorum::refusal::{QuorumRefusal, check_count};
 use crate::replica_set::ReplicaSet;
 
 impl Majority {
@@ -13,11 +13,8 @@ impl Majority {
     pub fn new(replicas: usize) -> Result<Majority, QuorumRefusal>
         ensures { result ≡ majority_of replicas }
     {
-        if 1 <= replicas && replicas <= 15 {
-            Ok(Majority { replicas })
-        } else {
-            Err(QuorumRefusal::ReplicaCount)
-        }
+        check_count(replicas)?;
+        Ok(Majority { replicas })
     }
 }
 

@@ -1,12 +1,13 @@
 // Making a rule of weights, and what it answers.
 ghost use Rattle.std.specs.Prelude.{◌≡◌};
 ghost use Rattle.storage.specs.Quorums.{weighted_of, weighted_enough};
-ghost use Rattle.storage.specs.Weights.{weight_at};
+ghost use Rattle.storage.specs.Weights.{weigh, weight_at};
+ghost use Rattle.storage.specs.ReplicaSets.{member};
 ghost use Rattle.storage.specs.Meeting.{heavy_laws};
 
 use super::Weighted;
 use crate::quorum::Quorum;
-use crate::quorum::refusal::QuorumRefusal;
+use crate::quorum::refusal::{QuorumRefusal, check_count};
 use crate::replica_set::ReplicaSet;
 
 impl Weighted {
@@ -15,22 +16,27 @@ impl Weighted {
         ensures { result ≡ weighted_of weights.now }
     {
         let replicas = weights.len();
-        if replicas < 1 || replicas > 15 {
-            return Err(QuorumRefusal::ReplicaCount);
-        }
-        let mut padded = [0; 15];
-        let mut total: usize = 0;
-        for replica in 0..replicas {
-            padded[replica] = weights[replica];
-            total += weights[replica] as usize;
-        }
-        if total == 0 {
+        check_count(replicas)?;
+        if weights.iter().all(|weight| *weight == 0) {
             return Err(QuorumRefusal::Weightless);
         }
+        let mut padded = [0; 15];
+        padded[..replicas].copy_from_slice(weights);
         Ok(Weighted {
             weights: padded,
             replicas,
         })
+    }
+
+    // What the replicas that a set holds weigh together.
+    fn weight_of(&self, set: &ReplicaSet) -> u16
+        ensures { result ≡ weigh (weight_at self.now.weights) (member set.now) self.now.replicas }
+    {
+        let weights = self.weights.as_slice();
+        (0..self.replicas)
+            .filter(|&replica| set.contains(replica))
+            .map(|replica| u16::from(weights.get(replica).copied().unwrap_or(0)))
+            .sum()
     }
 }
 
@@ -56,15 +62,8 @@ impl Quorum for Weighted {
     }
 
     fn is_quorum(&self, set: &ReplicaSet) -> bool {
-        let mut total: usize = 0;
-        let mut held: usize = 0;
-        for replica in 0..self.replicas {
-            let weight = self.weights[replica] as usize;
-            total += weight;
-            if set.contains(replica) {
-                held += weight;
-            }
-        }
+        let held = u32::from(self.weight_of(set));
+        let total = u32::from(self.weight_of(&ReplicaSet::all()));
         2 * held > total
     }
 }

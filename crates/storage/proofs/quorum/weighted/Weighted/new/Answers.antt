@@ -1,34 +1,22 @@
-use Rattle.std.proofs.Common.{length, get_or, set, sym, refl, ap, ◌∙◌, arith}
+use Rattle.std.proofs.Common.{◌==◌, length, sym, ap, arith, rules, tests}
+use Rattle.std.proofs.lemmas.Iterator.{YieldsList-from_slice}
+use Rattle.std.proofs.lemmas.Iterator.Search.{all_from_yields_List}
 use Rattle.storage.specs.Weights.{weigh, all, weight_at}
-use Rattle.storage.specs.Meeting.{weigh_yes}
-use Rattle.storage.proofs.QuorumMaking.{padded_more, copied, weightless_made, weighted_made}
+use Rattle.storage.proofs.QuorumMaking.{padded_row, weightless, weighty, weightless_made, weighted_made}
 use Rattle.storage.proofs.quorum.weighted.Weighted.new.Goals as goal
 
-pub loop-replica-preserved : goal.loop-replica-preserved
-loop-replica-preserved c =
+pub returns-then-all : goal.returns-then-all
+returns-then-all c =
     let ws = c.args.weights.now in
-    let k = c.loop-replica.replica in
-    let more = padded_more ws k (omega arith) (omega arith) in (
-      ap (λ xs. set xs k (get_or ws k 0)) c.loop-replica.invariant.0 ∙ more,
-      omega (arith, weigh_yes (weight_at ws) all k refl),
-      omega arith,
-    )
+    let each = all_from_yields_List (λ x. x == 0) _ _ c.all.result c.all.ensures.ran (YieldsList-from_slice ws cc) (λ x b q k. search (rules, tests)) in
+    sym (weightless_made ws (search rules) (search rules) (weightless ws _ each c.if-all.true))
 
-pub returns-then-total-eq0 : goal.returns-then-total-eq0
-returns-then-total-eq0 c =
+pub invariant_of-result-clause-weighs : goal.invariant_of-result-clause-weighs
+invariant_of-result-clause-weighs c =
     let ws = c.args.weights.now in
-    let whole = copied ws _ _ _ c.loop-replica.invariant.0 c.loop-replica.invariant.1 (omega arith) in
-    sym (weightless_made ws (omega arith) (omega arith) (sym whole.1 ∙ c.if-total-eq0.true))
-
-pub invariant_of-result : goal.invariant_of-result
-invariant_of-result c =
-    let ws = c.args.weights.now in
-    let whole = copied ws _ _ _ c.loop-replica.invariant.0 c.loop-replica.invariant.1 (omega arith) in
-    let same = ap (λ xs. weigh (weight_at xs) all (length ws)) whole.0 in
-    record { some = omega arith; few = omega arith; weighs = omega arith }
+    let each = all_from_yields_List (λ x. x == 0) _ _ c.all.result c.all.ensures.ran (YieldsList-from_slice ws cc) (λ x b q k. search (rules, tests)) in
+    let same = ap (λ xs. weigh (weight_at xs) all (length ws)) (padded_row ws c.copy_from_slice.new.self c.copy_from_slice.ensures.after) in
+    omega (arith, same, weighty ws _ each c.if-all.false)
 
 pub returns : goal.returns
-returns c =
-    let ws = c.args.weights.now in
-    let whole = copied ws _ _ _ c.loop-replica.invariant.0 c.loop-replica.invariant.1 (omega arith) in
-    sym (weighted_made ws _ _ _ _ whole.0)
+returns c = sym (weighted_made c.args.weights.now _ _ _ _ (padded_row c.args.weights.now c.copy_from_slice.new.self c.copy_from_slice.ensures.after))
