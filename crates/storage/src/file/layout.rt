@@ -16,7 +16,7 @@ impl Layout {
     pub(crate) fn of(count: usize) -> Option<Layout>
         ensures { MatchOption result (count_fits count ≡ false) (λ l. (l.count ≡ count) × (count_fits count ≡ true)) }
     {
-        if 1 <= count && count <= 15 {
+        if (1..=15).contains(&count) {
             Some(Layout { count })
         } else {
             None

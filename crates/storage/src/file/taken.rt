@@ -112,14 +112,7 @@ impl Storage for FileStorage {
         ensures size { self.new.count ≡ self.old.count }
         ensures bytes { self.new.bytes.items ≡ (if is_ok result then file_stored self.old.bytes.items self.old.count i new else self.old.bytes.items) }
     {
-        let left = self.record(i)?.left;
-        if left == 0 {
-            return Err(StorageFault::no_stores_left(i));
-        }
-        let cell = Cell {
-            page: new,
-            left: left - 1,
-        };
+        let cell = self.record(i)?.stored(i, new)?;
         self.put(i, cell);
         Ok(())
     }
