@@ -15,7 +15,7 @@ pub enum Status {
     Recovering,
 }
 
-#[derive(Clone, Copy)]
+#[derive(Clone, Copy, PartialEq, Eq, Debug)]
 pub struct Replica {
     pub status: Status,
     // the round of the present operation, or of the last one
