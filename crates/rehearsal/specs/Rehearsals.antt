@@ -9,8 +9,6 @@ use Rattle.cluster.specs.declared.refusal.Refusal.{Refusal}
 use Rattle.rehearsal.specs.Commands.{event_of}
 use Rattle.rehearsal.specs.Openings.{opening_of}
 use Rattle.rehearsal.specs.Replies.{reply_text}
-use Rattle.rehearsal.specs.declared.opening.Kind.{Kind}
-use Rattle.rehearsal.specs.declared.opening.Kind.TheVariants as kind
 use Rattle.rehearsal.specs.declared.opening.Opening.{Opening}
 use Rattle.rehearsal.specs.declared.rehearsal.Rehearsal.{Rehearsal}
 use Rattle.rehearsal.specs.declared.rehearsal.Rehearsal.TheVariants.{Waiting, Bids, Spans, Over}
@@ -21,6 +19,8 @@ use Rattle.storage.specs.Memories.{blank_cell, left_at, page_at}
 use Rattle.storage.specs.Quorums.{majority_enough}
 use Rattle.storage.specs.Spans.{span_decoded}
 use Rattle.storage.specs.Weights.{most}
+use Rattle.storage.specs.declared.entry.kind.Kind.{Kind}
+use Rattle.storage.specs.declared.entry.kind.Kind.TheVariants as kind
 use Rattle.storage.specs.declared.quorum.majority.Majority.{Majority}
 use Rattle.storage.specs.declared.stable.memory.MemoryStorage.{MemoryStorage}
 

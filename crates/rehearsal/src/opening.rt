@@ -6,12 +6,7 @@ ghost use Rattle.storage.specs.Memories.{count_fits};
 use crate::command::LONGEST_LINE;
 use crate::number::number;
 use crate::part::split_at_space;
-
-#[derive(Clone, Copy)]
-pub enum Kind {
-    Bid,
-    Span,
-}
+use storage::Kind;
 
 #[derive(Clone, Copy)]
 pub struct Opening {
@@ -42,14 +37,9 @@ fn within_range(replicas: u64, kind: u64, stores: u64) -> Option<Opening>
     if replicas < 1 || replicas > 15 || stores >= 1 << 32 {
         return None;
     }
-    let kind = match kind {
-        1 => Kind::Bid,
-        2 => Kind::Span,
-        _ => return None,
-    };
     Some(Opening {
         replicas: replicas as usize,
-        kind,
+        kind: Kind::try_from(kind).ok()?,
         stores: stores as u32,
     })
 }

@@ -7,12 +7,12 @@ ghost use Rattle.storage.specs.Memories.{count_fits};
 ghost use Rattle.storage.specs.declared.stable.memory.MakeError.TheVariants.{NoMemory};
 
 use crate::command::event_of;
-use crate::opening::{Kind, Opening, opening_of};
+use crate::opening::{Opening, opening_of};
 use crate::reply::Reply;
 use cluster::Cluster;
 use std::alloc::Global;
 use storage::stable::memory::MakeError;
-use storage::{Bid, Entry, Majority, MemoryStorage, Quorum, Span, Storage};
+use storage::{Bid, Entry, Kind, Majority, MemoryStorage, Quorum, Span, Storage};
 
 #[derive(Drop)]
 pub enum Rehearsal {
