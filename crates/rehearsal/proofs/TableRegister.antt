@@ -1,7 +1,8 @@
 -- A register of a table in memory and the majority, once it is made. Assumes nothing.
-use Rattle.std.proofs.Common.{◌≡◌, ℕ, ◌≤◌, List, length, replicate, is_some, Ok, vec_items, vec_len, Option, ap, ◌∙◌, arith}
+use Rattle.std.proofs.Common.{◌≡◌, ℕ, ◌≤◌, List, length, replicate, is_some, Ok, Err, Result, vec_items, vec_len, Option, ap, ◌∙◌, arith}
 use native.Mathlib.Decide.{dec_le}
 use lib.ListN.{length-replicate}
+use Rattle.std.specs.Result.{IsErrAnd, MatchResult}
 use Rattle.cluster.specs.States.{begins}
 use Rattle.cluster.specs.declared.cluster.Cluster.{Cluster}
 use Rattle.rehearsal.specs.Rehearsals.{register_setup, register_state, table_setup, table_state}
@@ -39,3 +40,9 @@ module _ {E : Type 0} (decoded : ℕ → Option E) (n stores : ℕ) (m : MemoryS
 
   pub state_made : register_state c ≡ begins (page_at (vec_items m.cells)) (left_at (vec_items m.cells)) → register_state c ≡ table_state n stores
   state_made starts = starts ∙ ap (λ (l : List Cell). begins (page_at l) (left_at l)) cells
+
+-- what is known of a value still holds where its error is replaced
+pub error_replaced : {T E D : Type 0} (r : Result T E) (s : Result T D) (A P : T → Type 0) (B : E → Type 0) (C : E → D → Type 0) (Q : D → Type 0) → MatchResult r A B → MatchResult r (λ x. s ≡ Ok x) (λ e. IsErrAnd s (C e)) → ((x : T) → A x → P x) → ((e : E) (d : D) → C e d → Q d) → MatchResult s P Q
+error_replaced (Ok x) s A P B C Q a same kept none = rw same (kept x a)
+error_replaced (Err e) (Err d) A P B C Q b error kept none = none e d error
+error_replaced (Err e) (Ok x) A P B C Q b error kept none = absurd error

@@ -54,20 +54,14 @@ impl Rehearsal {
     pub(crate) fn is_waiting(&self) -> bool
         ensures { result ≡ is_waiting (stage_of self.now) }
     {
-        match self {
-            Rehearsal::Waiting => true,
-            _ => false,
-        }
+        matches!(self, Rehearsal::Waiting)
     }
 
     // Whether the first line was bad.
     pub(crate) fn is_over(&self) -> bool
         ensures { result ≡ is_over (stage_of self.now) }
     {
-        match self {
-            Rehearsal::Over => true,
-            _ => false,
-        }
+        matches!(self, Rehearsal::Over)
     }
 
     // Takes the first line.
@@ -99,8 +93,5 @@ fn register_of<E: Entry>(
     let Ok(majority) = Majority::new(opening.replicas) else {
         unreachable()
     };
-    match Cluster::new(heap, storage, majority) {
-        Ok(register) => Ok(register),
-        Err(_) => Err(MakeError::NoMemory),
-    }
+    Cluster::new(heap, storage, majority).map_err(|_| MakeError::NoMemory)
 }
