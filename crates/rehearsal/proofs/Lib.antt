@@ -1,5 +1,4 @@
 pub mod CommandLines
 pub mod DigitByDigit
 pub mod LineCutting
-pub mod SpaceSearch
 pub mod TableRegister
