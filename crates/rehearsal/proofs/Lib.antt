@@ -1,4 +1,4 @@
 pub mod CommandLines
-pub mod DigitByDigit
 pub mod LineCutting
+pub mod NumberReading
 pub mod TableRegister

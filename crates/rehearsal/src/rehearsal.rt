@@ -1,7 +1,7 @@
 // A rehearsal of runs: one line in, and at most one line out.
 ghost use Rattle.std.specs.Prelude.{◌≡◌, true, is_some, MatchResult};
 ghost use Rattle.cluster.specs.States.{Does};
-ghost use Rattle.rehearsal.specs.Rehearsals.{heard, is_over, is_waiting, register_setup, register_state, replied, stage_of, table_setup, table_state};
+ghost use Rattle.rehearsal.specs.Rehearsals.{heard, is_over, is_waiting, opened_by, register_setup, register_state, replied, stage_of, table_setup, table_state};
 ghost use Rattle.rehearsal.specs.declared.rehearsal.Rehearsal.TheVariants.{Waiting};
 ghost use Rattle.storage.specs.Memories.{count_fits};
 ghost use Rattle.storage.specs.declared.stable.memory.MakeError.TheVariants.{NoMemory};
@@ -73,12 +73,20 @@ impl Rehearsal {
             *self = Rehearsal::Over;
             return Ok(Some(Reply::NotUnderstood));
         };
-        *self = match opening.kind {
-            Kind::Bid => Rehearsal::Bids(register_of(heap, &opening)?),
-            Kind::Span => Rehearsal::Spans(register_of(heap, &opening)?),
-        };
+        *self = run_of(heap, &opening)?;
         Ok(None)
     }
+}
+
+// The run that a first line opens, with a register of the kind that it asks for.
+fn run_of(heap: Global, opening: &Opening) -> Result<Rehearsal, MakeError>
+    requires { count_fits opening.now.replicas ≡ true }
+    ensures { MatchResult result (λ run. opened_by (Some opening.now) ≡ (stage_of run, None)) (λ e. e ≡ NoMemory) }
+{
+    Ok(match opening.kind {
+        Kind::Bid => Rehearsal::Bids(register_of(heap, opening)?),
+        Kind::Span => Rehearsal::Spans(register_of(heap, opening)?),
+    })
 }
 
 // The register of a first line: a table in memory, and the majority.
