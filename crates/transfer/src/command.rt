@@ -1,9 +1,5 @@
 // What the words of the command line ask for.
-#[derive(Clone, Copy)]
-pub enum Kind {
-    Bid,
-    Span,
-}
+use storage::Kind;
 
 pub enum Command<'a> {
     Walk,
@@ -15,46 +11,40 @@ pub enum Command<'a> {
     },
     Check(&'a str),
     Show(&'a str),
-    Unknown,
 }
 
 // The first word is the program's own name.
-pub fn command_of(words: &[String]) -> Command<'_> {
+pub fn command_of(words: &[String]) -> Option<Command<'_>> {
     match words {
-        [_] => Command::Walk,
+        [_] => Some(Command::Walk),
         [_, verb, path] => match verb.as_str() {
-            "check" => Command::Check(path.as_str()),
-            "show" => Command::Show(path.as_str()),
-            _ => Command::Unknown,
+            "check" => Some(Command::Check(path.as_str())),
+            "show" => Some(Command::Show(path.as_str())),
+            _ => None,
         },
-        [_, verb, replicas, kind, stores, path] if verb.as_str() == "blank" => {
-            blank(
-                replicas.as_str(),
-                kind.as_str(),
-                stores.as_str(),
-                path.as_str(),
-            )
-        }
-        _ => Command::Unknown,
+        [_, verb, replicas, kind, stores, path] if verb.as_str() == "blank" => blank(
+            replicas.as_str(),
+            kind.as_str(),
+            stores.as_str(),
+            path.as_str(),
+        ),
+        _ => None,
     }
 }
 
-fn blank<'a>(replicas: &str, kind: &str, stores: &str, path: &'a str) -> Command<'a> {
-    let kind = match kind {
-        "1" => Kind::Bid,
-        "2" => Kind::Span,
-        _ => return Command::Unknown,
+fn blank<'a>(replicas: &str, kind: &str, stores: &str, path: &'a str) -> Option<Command<'a>> {
+    Some(Command::Blank {
+        replicas: replicas.parse().ok()?,
+        kind: kind_in(kind)?,
+        stores: stores.parse().ok()?,
+        path,
+    })
+}
+
+// The kind of one digit.
+fn kind_in(word: &str) -> Option<Kind> {
+    let [digit] = word.as_bytes() else {
+        return None;
     };
-    match replicas.parse() {
-        Ok(replicas) => match stores.parse() {
-            Ok(stores) => Command::Blank {
-                replicas,
-                kind,
-                stores,
-                path,
-            },
-            Err(_) => Command::Unknown,
-        },
-        Err(_) => Command::Unknown,
-    }
+    Kind::try_from(u64::from(digit.checked_sub(b'0')?)).ok()
 }
