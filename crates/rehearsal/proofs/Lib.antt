@@ -1,4 +1,3 @@
-pub mod CommandLines
 pub mod LineCutting
 pub mod NumberReading
 pub mod TableRegister
