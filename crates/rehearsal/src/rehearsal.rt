@@ -42,6 +42,7 @@ impl Rehearsal {
     pub fn line(&mut self, heap: Global, line: &[u8]) -> Result<Option<Reply>, MakeError>
         ensures { MatchResult result (λ said. heard (stage_of self.old) line.now ≡ (stage_of self.new, said)) (λ e. (e ≡ NoMemory) × (self.old ≡ Waiting) × (self.new ≡ Waiting)) }
     {
+        // The two registers have two types, so each has its own arm.
         match self {
             Rehearsal::Waiting => self.open(heap, line),
             Rehearsal::Bids(register) => Ok(Some(reply_to(register, line))),

@@ -5,6 +5,7 @@ ghost use Rattle.std.specs.Prelude.{Some};
 use cluster::{Answer, Outcome};
 use std::fmt;
 
+// Not an option of an answer: what is not understood is answered too, and no reply is `None` already.
 #[derive(Clone, Copy)]
 pub enum Reply {
     // the line asks for no event
