@@ -80,13 +80,10 @@ fn opened(bytes: &[u8]) -> Result<(usize, Kind), OpenRefusal> {
 
 // The bytes of a file, as far as a transfer file may reach. Where it cannot be read, that is said.
 fn read(rt: &HostRuntime, path: &str) -> Result<Vec<u8>, Failure> {
-    match read_start(rt, path) {
-        Ok(bytes) => Ok(bytes),
-        Err(error) => {
-            println!(rt; "{path} cannot be read: {error}.")?;
-            Err(Failure)
-        }
-    }
+    read_start(rt, path).try_map_err(|error| -> Result<Failure, Failure> {
+        println!(rt; "{path} cannot be read: {error}.")?;
+        Ok(Failure)
+    })
 }
 
 fn read_start(rt: &HostRuntime, path: &str) -> io::Result<Vec<u8>> {
