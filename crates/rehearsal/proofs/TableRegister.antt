@@ -1,5 +1,5 @@
 -- A register of a table in memory and the majority, once it is made. Assumes nothing.
-use Rattle.std.proofs.Common.{◌≡◌, ℕ, ◌≤◌, List, length, replicate, is_some, Ok, Err, Result, vec_items, vec_len, Option, ap, ◌∙◌, arith}
+use Rattle.std.proofs.Common.{◌≡◌, ℕ, ◌≤◌, List, length, replicate, is_some, Ok, Err, Result, vec_items, vec_len, Option, ap, ◌∙◌}
 use native.Mathlib.Decide.{dec_le}
 use lib.ListN.{length-replicate}
 use Rattle.std.specs.Result.{IsErrAnd, MatchResult}
@@ -18,9 +18,9 @@ majority_size : (n : ℕ) (q : Majority) → Ok q ≡ majority_of n → q.replic
 majority_size n q e = go (dec_le 1 n) (dec_le n 15) e
   where
     go : (l : Dec (1 ≤ n)) (m : Dec (n ≤ 15)) → Ok q ≡ replicas_within n (λ l m. Ok (record { replicas = n; some = l; few = m })) l m → q.replicas ≡ n
-    go (yes l) (yes m) k = let same : q ≡ record { replicas = n; some = l; few = m } = cc in ap (λ (r : Majority). r.replicas) same
-    go (yes l) (no m) k = let z : ◌≡◌ {A = ℕ} 0 1 = cc in absurd (omega arith)
-    go (no l) m k = let z : ◌≡◌ {A = ℕ} 0 1 = cc in absurd (omega arith)
+    go (yes l) (yes m) k = cc
+    go (yes l) (no m) k = cc
+    go (no l) m k = cc
 
 module _ {E : Type 0} (decoded : ℕ → Option E) (n stores : ℕ) (m : MemoryStorage) (q : Majority) (c : Cluster MemoryStorage Majority E) (cells : vec_items m.cells ≡ replicate n (blank_cell stores)) where
   pub setup_made : Ok q ≡ majority_of n → c.storage ≡ m → c.quorum ≡ q → register_setup decoded c ≡ table_setup n (λ code. is_some (decoded code))
