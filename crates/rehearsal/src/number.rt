@@ -6,6 +6,7 @@ ghost use Rattle.rehearsal.specs.Numbers.{number_of};
 pub(crate) fn number(digits: &[u8]) -> Option<u64>
     ensures { result ≡ number_of digits.now }
 {
+    // `parse` would take a plus in front.
     if digits.first() == Some(&b'+') {
         return None;
     }

@@ -1,10 +1,10 @@
 // Transfer files on disk: making one, checking it, showing its pages.
 use crate::Failure;
 use crate::table::show_pages;
-use crate::words::InWords;
+use crate::words::{InWords, Worded};
 use std::fs::File;
-use std::io;
 use std::io::{Read, Write};
+use std::{fmt, io};
 use storage::file::opening::open;
 use storage::file::writing::write_blank;
 use storage::{Bid, Entry, FileStorage, Kind, OpenRefusal, Span};
@@ -37,6 +37,7 @@ fn zeros(rt: &HostRuntime, size: usize) -> io::Result<Vec<u8>> {
     Ok(vec![in rt.alloc(); 0; size]?)
 }
 
+// Writes a file where there is none yet.
 fn write_new(rt: &HostRuntime, path: &str, bytes: &[u8]) -> io::Result<()> {
     File::create_new(rt, path)?.write_all(bytes)
 }
@@ -58,12 +59,21 @@ pub fn check(rt: &HostRuntime, path: &str) -> Result<(), Failure> {
 pub fn show(rt: &HostRuntime, path: &str) -> Result<(), Failure> {
     let bytes = read(rt, path)?;
     match opened(&bytes) {
-        Ok((_, Kind::Bid)) => { Ok(show_pages::<Bid, _>(rt, &FileStorage::take::<Bid>(bytes))?) }
-        Ok((_, Kind::Span)) => { Ok(show_pages::<Span, _>(rt, &FileStorage::take::<Span>(bytes))?) }
+        Ok((_, Kind::Bid)) => show_as::<Bid>(rt, bytes),
+        Ok((_, Kind::Span)) => show_as::<Span>(rt, bytes),
         Err(refusal) => refuse(rt, path, refusal),
     }
 }
 
+// Shows the pages of a file for this kind of entry.
+fn show_as<E: Worded>(rt: &HostRuntime, bytes: Vec<u8>) -> Result<(), Failure>
+where
+    InWords<E>: fmt::Display,
+{
+    Ok(show_pages::<E, _>(rt, &FileStorage::take::<E>(bytes))?)
+}
+
+// Says why a file is refused.
 fn refuse(rt: &HostRuntime, path: &str, refusal: OpenRefusal) -> Result<(), Failure> {
     println!(rt; "{path} is refused: {}.", InWords(refusal))?;
     Err(Failure)
@@ -86,6 +96,7 @@ fn read(rt: &HostRuntime, path: &str) -> Result<Vec<u8>, Failure> {
     })
 }
 
+// Reads a file to its end, or to one byte more than a transfer file may have.
 fn read_start(rt: &HostRuntime, path: &str) -> io::Result<Vec<u8>> {
     let mut bytes = Vec::new(rt.alloc());
     File::open(rt, path)?.take(MOST).read_to_end(&mut bytes)?;

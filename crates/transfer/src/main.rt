@@ -35,6 +35,7 @@ fn main(rt: HostRuntime) -> ExitCode {
     }
 }
 
+// Does what the command line asks for.
 fn run(rt: &HostRuntime) -> Result<(), Failure> {
     let Ok(words) = words_of(rt) else {
         return show_usage(rt);
@@ -68,6 +69,7 @@ fn words_of(rt: &HostRuntime) -> io::Result<Vec<String>> {
     Ok(env::args(rt)?.collect(rt.alloc())?)
 }
 
+// Follows one lot in a storage in memory.
 fn start_walk(rt: &HostRuntime) -> Result<(), Failure> {
     match MemoryStorage::blank(rt.alloc(), 3, 5) {
         Ok(memory) => Ok(walk::follow(rt, memory)?),
