@@ -1,5 +1,3 @@
-pub mod CommandLines
-pub mod DigitByDigit
 pub mod LineCutting
-pub mod SpaceSearch
+pub mod NumberReading
 pub mod TableRegister

@@ -1,8 +1,9 @@
 -- A register of a table in memory and the majority, once it is made. Assumes nothing.
-use Rattle.std.proofs.Common.{◌≡◌, ℕ, ◌≤◌, List, length, replicate, is_some, Ok, vec_items, vec_len, Option, ap, ◌∙◌, arith}
+use Rattle.std.proofs.Common.{◌≡◌, ℕ, ◌≤◌, List, length, replicate, is_some, Ok, Err, Result, vec_items, vec_len, Option, ap, ◌∙◌}
 use native.Mathlib.Decide.{dec_le}
 use lib.ListN.{length-replicate}
 use Rattle.cluster.specs.Fitness.{of_kind}
+use Rattle.std.specs.Result.{IsErrAnd, MatchResult}
 use Rattle.cluster.specs.States.{begins}
 use Rattle.cluster.specs.declared.cluster.Cluster.{Cluster}
 use Rattle.rehearsal.specs.Rehearsals.{register_setup, register_state, table_setup, table_state}
@@ -19,9 +20,9 @@ majority_size : (n : ℕ) (q : Majority) → Ok q ≡ majority_of n → q.replic
 majority_size n q e = go (dec_le 1 n) (dec_le n 15) e
   where
     go : (l : Dec (1 ≤ n)) (m : Dec (n ≤ 15)) → Ok q ≡ replicas_within n (λ l m. Ok (record { replicas = n; some = l; few = m })) l m → q.replicas ≡ n
-    go (yes l) (yes m) k = let same : q ≡ record { replicas = n; some = l; few = m } = cc in ap (λ (r : Majority). r.replicas) same
-    go (yes l) (no m) k = let z : ◌≡◌ {A = ℕ} 0 1 = cc in absurd (omega arith)
-    go (no l) m k = let z : ◌≡◌ {A = ℕ} 0 1 = cc in absurd (omega arith)
+    go (yes l) (yes m) k = cc
+    go (yes l) (no m) k = cc
+    go (no l) m k = cc
 
 module _ {E : Type 0} (kind : EntryOf E) (n stores : ℕ) (m : MemoryStorage) (q : Majority) (c : Cluster MemoryStorage Majority E) (cells : vec_items m.cells ≡ replicate n (blank_cell stores)) where
   pub setup_made : Ok q ≡ majority_of n → c.storage ≡ m → c.quorum ≡ q → register_setup kind c ≡ table_setup n (of_kind kind)
@@ -41,3 +42,9 @@ module _ {E : Type 0} (kind : EntryOf E) (n stores : ℕ) (m : MemoryStorage) (q
 
   pub state_made : register_state c ≡ begins (page_at (vec_items m.cells)) (left_at (vec_items m.cells)) → register_state c ≡ table_state n stores
   state_made starts = starts ∙ ap (λ (l : List Cell). begins (page_at l) (left_at l)) cells
+
+-- what is known of a value still holds where its error is replaced
+pub error_replaced : {T E D : Type 0} (r : Result T E) (s : Result T D) (A P : T → Type 0) (B : E → Type 0) (C : E → D → Type 0) (Q : D → Type 0) → MatchResult r A B → MatchResult r (λ x. s ≡ Ok x) (λ e. IsErrAnd s (C e)) → ((x : T) → A x → P x) → ((e : E) (d : D) → C e d → Q d) → MatchResult s P Q
+error_replaced (Ok x) s A P B C Q a same kept none = rw same (kept x a)
+error_replaced (Err e) (Err d) A P B C Q b error kept none = none e d error
+error_replaced (Err e) (Ok x) A P B C Q b error kept none = absurd error

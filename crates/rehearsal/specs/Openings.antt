@@ -1,20 +1,21 @@
 -- The first line: of what register the run is. Assumes nothing.
-use Rattle.std.specs.Prelude.{ℕ, ◌^◌, cond, ◌&&◌, List, length, Some, None, Option, ◌==◌, nat_lt}
+use Rattle.std.specs.Prelude.{ℕ, ◌^◌, cond, ◌&&◌, List, length, Some, None, Ok, Err, Option, Result, nat_lt}
 use Rattle.rehearsal.specs.Commands.{with_number}
 use Rattle.rehearsal.specs.Numbers.{number_of}
 use Rattle.rehearsal.specs.Parts.{after_space, before_space}
-use Rattle.rehearsal.specs.declared.opening.Kind.{Kind}
-use Rattle.rehearsal.specs.declared.opening.Kind.TheVariants.{Bid, Span}
 use Rattle.rehearsal.specs.declared.opening.Opening.{Opening}
+use Rattle.storage.specs.Kinds.{kind_of}
 use Rattle.storage.specs.Memories.{count_fits}
+use Rattle.storage.specs.declared.entry.kind.Kind.{Kind}
+use Rattle.storage.specs.declared.entry.kind.NoSuchKind.{NoSuchKind}
 
-abbrev pub of_kind : ℕ → Kind → ℕ → Option Opening
-of_kind n k stores = Some (record { replicas = n; kind = k; stores = stores })
+abbrev pub of_kind : ℕ → Result Kind NoSuchKind → ℕ → Option Opening
+of_kind n (Ok k) stores = Some (record { replicas = n; kind = k; stores = stores })
+of_kind n (Err e) stores = None
 
--- 1 to 15 replicas, kind 1 or 2, stores below 2^32
+-- 1 to 15 replicas, the number of a kind, stores below 2^32
 abbrev pub within_range : ℕ → ℕ → ℕ → Option Opening
-within_range n kind stores =
-    cond (count_fits n && nat_lt stores (2 ^ 32)) (cond (kind == 1) (of_kind n Bid stores) (cond (kind == 2) (of_kind n Span stores) None)) None
+within_range n kind stores = cond (count_fits n && nat_lt stores (2 ^ 32)) (of_kind n (kind_of kind) stores) None
 
 -- "n kind stores"
 abbrev pub parted : List ℕ → Option Opening

@@ -1,12 +1,11 @@
 -- The parts of a line, which stand one space apart. Assumes nothing.
-use Rattle.std.specs.Prelude.{ℕ, cond, List, [], ◌∷◌, ◌==◌}
+use Rattle.std.specs.Prelude.{ℕ, List, ◌==◌}
+use Rattle.std.specs.List.{after_first, before_first}
 
 -- what stands before the first space: all, where there is none
 abbrev pub before_space : List ℕ → List ℕ
-before_space [] = []
-before_space (b ∷ bs) = cond (b == 32) [] (b ∷ before_space bs)
+before_space bs = before_first (λ b. b == 32) bs
 
 -- what stands after the first space: nothing, where there is none
 abbrev pub after_space : List ℕ → List ℕ
-after_space [] = []
-after_space (b ∷ bs) = cond (b == 32) bs (after_space bs)
+after_space bs = after_first (λ b. b == 32) bs

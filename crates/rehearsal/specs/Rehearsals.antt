@@ -9,8 +9,6 @@ use Rattle.cluster.specs.declared.refusal.Refusal.{Refusal}
 use Rattle.rehearsal.specs.Commands.{event_of}
 use Rattle.rehearsal.specs.Openings.{opening_of}
 use Rattle.rehearsal.specs.Replies.{reply_text}
-use Rattle.rehearsal.specs.declared.opening.Kind.{Kind}
-use Rattle.rehearsal.specs.declared.opening.Kind.TheVariants as kind
 use Rattle.rehearsal.specs.declared.opening.Opening.{Opening}
 use Rattle.rehearsal.specs.declared.rehearsal.Rehearsal.{Rehearsal}
 use Rattle.rehearsal.specs.declared.rehearsal.Rehearsal.TheVariants.{Waiting, Bids, Spans, Over}
@@ -25,6 +23,8 @@ use Rattle.storage.specs.contracts.entry.span.making.SpanEntry.TheImpl.{ghosts a
 use Rattle.storage.specs.contracts.quorum.majority.making.MajorityQuorum.TheImpl.{ghosts as majority}
 use Rattle.storage.specs.contracts.stable.memory.MemoryStorageStorage.TheImpl.{ghosts as table}
 use Rattle.storage.specs.declared.entry.Entry.{Ghosts as EntryOf}
+use Rattle.storage.specs.declared.entry.kind.Kind.{Kind}
+use Rattle.storage.specs.declared.entry.kind.Kind.TheVariants as kind
 use Rattle.storage.specs.declared.quorum.majority.Majority.{Majority}
 use Rattle.storage.specs.declared.stable.memory.MemoryStorage.{MemoryStorage}
 

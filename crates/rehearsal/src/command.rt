@@ -9,7 +9,8 @@ use cluster::Event;
 // A longer line is not understood, whatever it holds.
 pub(crate) const LONGEST_LINE: usize = 4096;
 
-// The event that a line asks for, if it asks for one.
+// The event that a line asks for, if it asks for one. The length is asked here and in `opening_of`: a
+// function for both would be as long as the test.
 pub fn event_of(line: &[u8]) -> Option<Event>
     ensures { result ≡ event_of line.now }
 {

@@ -51,6 +51,7 @@ fn main(rt: HostRuntime) -> ExitCode {
 // Replies to every line of standard input.
 fn rehearse(rt: &HostRuntime) -> Result<(), Failure> {
     let mut session = Session::new(rt.alloc())?;
+    // A count that no input reaches: a loop over input has no other bound by which it ends.
     for _ in 0..u64::MAX {
         if read_some(rt, &mut session)? == 0 || session.is_over() {
             break;

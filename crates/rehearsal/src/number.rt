@@ -1,27 +1,14 @@
 // Numbers in base ten.
 ghost use Rattle.std.specs.Prelude.{◌≡◌};
-ghost use Rattle.rehearsal.specs.Numbers.{number_of, with_digit};
+ghost use Rattle.rehearsal.specs.Numbers.{number_of};
 
-// The number that the digits write, if it is below 2^64.
+// The number that the digits write, if it is below 2^64. No sign stands before them.
 pub(crate) fn number(digits: &[u8]) -> Option<u64>
     ensures { result ≡ number_of digits.now }
 {
-    if digits.is_empty() {
+    // `parse` would take a plus in front.
+    if digits.first() == Some(&b'+') {
         return None;
     }
-    let mut value = 0;
-    for digit in digits {
-        value = append(value, *digit)?;
-    }
-    Some(value)
-}
-
-// The number with one digit more.
-fn append(value: u64, digit: u8) -> Option<u64>
-    ensures { result ≡ with_digit value digit }
-{
-    if digit < b'0' || digit > b'9' {
-        return None;
-    }
-    value.checked_mul(10)?.checked_add(u64::from(digit - b'0'))
+    str::from_utf8(digits).ok()?.parse().ok()
 }

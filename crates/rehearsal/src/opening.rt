@@ -6,12 +6,7 @@ ghost use Rattle.storage.specs.Memories.{count_fits};
 use crate::command::LONGEST_LINE;
 use crate::number::number;
 use crate::part::split_at_space;
-
-#[derive(Clone, Copy)]
-pub enum Kind {
-    Bid,
-    Span,
-}
+use storage::Kind;
 
 #[derive(Clone, Copy)]
 pub struct Opening {
@@ -34,22 +29,17 @@ pub fn opening_of(line: &[u8]) -> Option<Opening>
     within_range(number(replicas)?, number(kind)?, number(stores)?)
 }
 
-// 1 to 15 replicas, kind 1 or 2, and stores of 32 bits.
+// 1 to 15 replicas, the number of a kind, and stores of 32 bits.
 fn within_range(replicas: u64, kind: u64, stores: u64) -> Option<Opening>
     ensures value { result ≡ within_range replicas kind stores }
     ensures fits { IfSome result (λ o. count_fits o.replicas ≡ true) }
 {
-    if replicas < 1 || replicas > 15 || stores >= 1 << 32 {
+    if replicas < 1 || replicas > 15 {
         return None;
     }
-    let kind = match kind {
-        1 => Kind::Bid,
-        2 => Kind::Span,
-        _ => return None,
-    };
     Some(Opening {
         replicas: replicas as usize,
-        kind,
-        stores: stores as u32,
+        kind: Kind::try_from(kind).ok()?,
+        stores: u32::try_from(stores).ok()?,
     })
 }

@@ -2,18 +2,18 @@
 ghost use Rattle.std.specs.Prelude.{◌≡◌, true, MatchResult};
 ghost use Rattle.cluster.specs.Fitness.{of_kind};
 ghost use Rattle.cluster.specs.States.{Does};
-ghost use Rattle.rehearsal.specs.Rehearsals.{heard, is_over, is_waiting, register_setup, register_state, replied, stage_of, table_setup, table_state};
+ghost use Rattle.rehearsal.specs.Rehearsals.{heard, is_over, is_waiting, opened_by, register_setup, register_state, replied, stage_of, table_setup, table_state};
 ghost use Rattle.rehearsal.specs.declared.rehearsal.Rehearsal.TheVariants.{Waiting};
 ghost use Rattle.storage.specs.Memories.{count_fits};
 ghost use Rattle.storage.specs.declared.stable.memory.MakeError.TheVariants.{NoMemory};
 
 use crate::command::event_of;
-use crate::opening::{Kind, Opening, opening_of};
+use crate::opening::{Opening, opening_of};
 use crate::reply::Reply;
 use cluster::Cluster;
 use std::alloc::Global;
 use storage::stable::memory::MakeError;
-use storage::{Bid, Entry, Majority, MemoryStorage, Quorum, Span, Storage};
+use storage::{Bid, Entry, Kind, Majority, MemoryStorage, Quorum, Span, Storage};
 
 #[derive(Drop)]
 pub enum Rehearsal {
@@ -43,6 +43,7 @@ impl Rehearsal {
     pub fn line(&mut self, heap: Global, line: &[u8]) -> Result<Option<Reply>, MakeError>
         ensures { MatchResult result (λ said. heard (stage_of self.old) line.now ≡ (stage_of self.new, said)) (λ e. (e ≡ NoMemory) × (self.old ≡ Waiting) × (self.new ≡ Waiting)) }
     {
+        // The two registers have two types, so each has its own arm.
         match self {
             Rehearsal::Waiting => self.open(heap, line),
             Rehearsal::Bids(register) => Ok(Some(reply_to(register, line))),
@@ -55,20 +56,14 @@ impl Rehearsal {
     pub(crate) fn is_waiting(&self) -> bool
         ensures { result ≡ is_waiting (stage_of self.now) }
     {
-        match self {
-            Rehearsal::Waiting => true,
-            _ => false,
-        }
+        matches!(self, Rehearsal::Waiting)
     }
 
     // Whether the first line was bad.
     pub(crate) fn is_over(&self) -> bool
         ensures { result ≡ is_over (stage_of self.now) }
     {
-        match self {
-            Rehearsal::Over => true,
-            _ => false,
-        }
+        matches!(self, Rehearsal::Over)
     }
 
     // Takes the first line.
@@ -80,12 +75,20 @@ impl Rehearsal {
             *self = Rehearsal::Over;
             return Ok(Some(Reply::NotUnderstood));
         };
-        *self = match opening.kind {
-            Kind::Bid => Rehearsal::Bids(register_of(heap, &opening)?),
-            Kind::Span => Rehearsal::Spans(register_of(heap, &opening)?),
-        };
+        *self = run_of(heap, &opening)?;
         Ok(None)
     }
+}
+
+// The run that a first line opens, with a register of the kind that it asks for.
+fn run_of(heap: Global, opening: &Opening) -> Result<Rehearsal, MakeError>
+    requires { count_fits opening.now.replicas ≡ true }
+    ensures { MatchResult result (λ run. opened_by (Some opening.now) ≡ (stage_of run, None)) (λ e. e ≡ NoMemory) }
+{
+    Ok(match opening.kind {
+        Kind::Bid => Rehearsal::Bids(register_of(heap, opening)?),
+        Kind::Span => Rehearsal::Spans(register_of(heap, opening)?),
+    })
 }
 
 // The register of a first line: a table in memory, and the majority.
@@ -100,8 +103,5 @@ fn register_of<E: Entry>(
     let Ok(majority) = Majority::new(opening.replicas) else {
         unreachable()
     };
-    match Cluster::new(heap, storage, majority) {
-        Ok(register) => Ok(register),
-        Err(_) => Err(MakeError::NoMemory),
-    }
+    Cluster::new(heap, storage, majority).map_err(|_| MakeError::NoMemory)
 }

@@ -6,6 +6,7 @@ use cluster::{Answer, Failure};
 use replica::Outcome;
 use std::fmt;
 
+// Not an option of an answer: what is not understood is answered too, and no reply is `None` already.
 #[derive(Clone, Copy)]
 pub enum Reply {
     // the line asks for no event

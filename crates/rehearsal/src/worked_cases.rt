@@ -1,20 +1,13 @@
 // The worked cases: examples in numbers, proved of the definitions that the contracts cite.
 ghost use Rattle.std.specs.Prelude.{◌≡◌, length};
 ghost use Rattle.rehearsal.specs.WorkedCases.{Holds, cases};
-ghost use Rattle.std.specs.List.{AllByRecursion};
+ghost use Rattle.std.specs.List.{All};
 
-// How many worked cases there are, those of entries and quorums included; each of them holds.
+// How many worked cases there are; each of them holds. One is a script, which is computed, and those of
+// entries and quorums were proved by the crate below.
 pub fn worked_cases() -> usize
     ensures count { result ≡ length cases }
-    ensures hold { AllByRecursion Holds cases }
+    ensures hold { All Holds cases }
 {
-    each_holds();
-    15
-}
-
-// Each worked case is computed, or was proved by the crate below.
-fn each_holds()
-    ensures { AllByRecursion Holds cases }
-{
-    let _ = storage::worked_cases::worked_cases();
+    storage::worked_cases::worked_cases() + 1
 }

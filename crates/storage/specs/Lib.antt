@@ -2,6 +2,7 @@ pub mod Bids
 pub mod ByteNumbers
 pub mod Faults
 pub mod Files
+pub mod Kinds
 pub mod Memories
 pub mod Opened
 pub mod Pages

@@ -3,6 +3,7 @@ ghost use Rattle.std.specs.Prelude.{◌≡◌, ℕ, ◌^◌, ◌<◌, Some, Opti
 
 pub mod bid;
 pub mod buyer;
+pub mod kind;
 pub mod price;
 pub mod span;
 

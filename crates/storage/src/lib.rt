@@ -15,6 +15,7 @@ pub mod worked_cases;
 pub use entry::Entry;
 pub use entry::bid::Bid;
 pub use entry::buyer::Buyer;
+pub use entry::kind::{Kind, NoSuchKind};
 pub use entry::price::Price;
 pub use entry::span::Span;
 pub use fault::{Reason, StorageFault};

@@ -1,9 +1,9 @@
 // What the words of the command line ask for.
-#[derive(Clone, Copy)]
-pub enum Kind {
-    Bid,
-    Span,
-}
+ghost use Rattle.std.specs.Prelude.{◌≡◌, map, string_bytes};
+ghost use Rattle.std.specs.Option.{option_map};
+ghost use Rattle.transfer.specs.Commands.{blank_order, file_order, kind_in, number_in, order_in, order_of};
+
+use storage::Kind;
 
 pub enum Command<'a> {
     Walk,
@@ -15,46 +15,80 @@ pub enum Command<'a> {
     },
     Check(&'a str),
     Show(&'a str),
-    Unknown,
 }
 
 // The first word is the program's own name.
-pub fn command_of(words: &[String]) -> Command<'_> {
+pub fn command_of(words: &[String]) -> Option<Command<'_>>
+    ensures { option_map order_of result ≡ order_in (map string_bytes words.now) }
+{
     match words {
-        [_] => Command::Walk,
-        [_, verb, path] => match verb.as_str() {
-            "check" => Command::Check(path.as_str()),
-            "show" => Command::Show(path.as_str()),
-            _ => Command::Unknown,
-        },
-        [_, verb, replicas, kind, stores, path] if verb.as_str() == "blank" => {
-            blank(
-                replicas.as_str(),
-                kind.as_str(),
-                stores.as_str(),
-                path.as_str(),
-            )
-        }
-        _ => Command::Unknown,
+        [_] => Some(Command::Walk),
+        [_, verb, path] => on_file(verb.as_str(), path.as_str()),
+        [_, verb, replicas, kind, stores, path] => blank(
+            verb.as_str(),
+            replicas.as_str(),
+            kind.as_str(),
+            stores.as_str(),
+            path.as_str(),
+        ),
+        _ => None,
     }
 }
 
-fn blank<'a>(replicas: &str, kind: &str, stores: &str, path: &'a str) -> Command<'a> {
-    let kind = match kind {
-        "1" => Kind::Bid,
-        "2" => Kind::Span,
-        _ => return Command::Unknown,
-    };
-    match replicas.parse() {
-        Ok(replicas) => match stores.parse() {
-            Ok(stores) => Command::Blank {
-                replicas,
-                kind,
-                stores,
-                path,
-            },
-            Err(_) => Command::Unknown,
-        },
-        Err(_) => Command::Unknown,
+// A command for a file that is there.
+fn on_file<'a>(verb: &str, path: &'a str) -> Option<Command<'a>>
+    ensures { option_map order_of result ≡ file_order verb.now path.now }
+{
+    match verb {
+        "check" => Some(Command::Check(path)),
+        "show" => Some(Command::Show(path)),
+        _ => None,
     }
+}
+
+// The command for a file that is to be made.
+fn blank<'a>(
+    verb: &str,
+    replicas: &str,
+    kind: &str,
+    stores: &str,
+    path: &'a str,
+) -> Option<Command<'a>>
+    ensures { option_map order_of result ≡ blank_order verb.now replicas.now kind.now stores.now path.now }
+{
+    if verb != "blank" {
+        return None;
+    }
+    Some(Command::Blank {
+        replicas: replicas_in(replicas)?,
+        kind: kind_in(kind)?,
+        stores: stores_in(stores)?,
+        path,
+    })
+}
+
+// A count of replicas, with a plus in front of it or not.
+#[tactic(auto, using(crate::proofs::NumberReading::parsed))]
+fn replicas_in(word: &str) -> Option<usize>
+    ensures { result ≡ number_in 64 word.now }
+{
+    word.parse().ok()
+}
+
+// A number of stores, likewise.
+#[tactic(auto, using(crate::proofs::NumberReading::parsed))]
+fn stores_in(word: &str) -> Option<u32>
+    ensures { result ≡ number_in 32 word.now }
+{
+    word.parse().ok()
+}
+
+// The kind of one digit.
+fn kind_in(word: &str) -> Option<Kind>
+    ensures { result ≡ kind_in word.now }
+{
+    let [digit] = word.as_bytes() else {
+        return None;
+    };
+    Kind::try_from(u64::from(digit.checked_sub(b'0')?)).ok()
 }

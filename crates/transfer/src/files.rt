@@ -1,58 +1,45 @@
 // Transfer files on disk: making one, checking it, showing its pages.
 use crate::Failure;
-use crate::command::Kind;
 use crate::table::show_pages;
-use crate::words::InWords;
+use crate::words::{InWords, Worded};
 use std::fs::File;
-use std::io;
 use std::io::{Read, Write};
+use std::{fmt, io};
 use storage::file::opening::open;
 use storage::file::writing::write_blank;
-use storage::{Bid, Entry, FileStorage, OpenRefusal, Span, WriteRefusal};
+use storage::{Bid, Entry, FileStorage, Kind, OpenRefusal, Span};
 
 // The longest transfer file has 15 replicas; one byte more tells that a file is longer.
-const MOST: usize = 665;
+const MOST: u64 = 665;
 
 // Makes the file of so many replicas that have stored nothing. It replaces no file.
-pub fn make(
+pub fn make<E: Entry>(
     rt: &HostRuntime,
     replicas: usize,
-    kind: Kind,
     stores: u32,
     path: &str,
 ) -> Result<(), Failure> {
     let size = 4 + 44 * replicas.min(15);
     let mut buffer = zeros(rt, size)?;
-    if let Err(refusal) = fill(replicas, kind, stores, &mut buffer) {
+    if let Err(refusal) = write_blank::<E>(replicas, stores, &mut buffer) {
         println!(rt; "No file was made: {}.", InWords(refusal))?;
         return Err(Failure);
     }
-    match write_new(rt, path, &buffer) {
-        Ok(()) => {
-            println!(rt; "{path} has {size} bytes: {replicas} offices, {stores} stores for each.")?;
-            Ok(())
-        }
-        Err(error) => {
-            println!(rt; "{path} was not made: {error}.")?;
-            Err(Failure)
-        }
+    if let Err(error) = write_new(rt, path, &buffer) {
+        println!(rt; "{path} was not made: {error}.")?;
+        return Err(Failure);
     }
+    println!(rt; "{path} has {size} bytes: {replicas} offices, {stores} stores for each.")?;
+    Ok(())
 }
 
 fn zeros(rt: &HostRuntime, size: usize) -> io::Result<Vec<u8>> {
     Ok(vec![in rt.alloc(); 0; size]?)
 }
 
-fn fill(replicas: usize, kind: Kind, stores: u32, buffer: &mut [u8]) -> Result<(), WriteRefusal> {
-    match kind {
-        Kind::Bid => write_blank::<Bid>(replicas, stores, buffer),
-        Kind::Span => write_blank::<Span>(replicas, stores, buffer),
-    }
-}
-
+// Writes a file where there is none yet.
 fn write_new(rt: &HostRuntime, path: &str, bytes: &[u8]) -> io::Result<()> {
-    let mut file = File::create_new(rt, path)?;
-    file.write_all(bytes)
+    File::create_new(rt, path)?.write_all(bytes)
 }
 
 // Says whether a file is a transfer file, and of what.
@@ -60,7 +47,7 @@ pub fn check(rt: &HostRuntime, path: &str) -> Result<(), Failure> {
     let bytes = read(rt, path)?;
     match opened(&bytes) {
         Ok((replicas, kind)) => {
-            let number = kind_number(kind);
+            let number = u8::from(kind);
             println!(rt; "{path} is accepted: {replicas} offices, kind {number}.")?;
             Ok(())
         }
@@ -72,17 +59,21 @@ pub fn check(rt: &HostRuntime, path: &str) -> Result<(), Failure> {
 pub fn show(rt: &HostRuntime, path: &str) -> Result<(), Failure> {
     let bytes = read(rt, path)?;
     match opened(&bytes) {
-        Ok((_, kind)) => {
-            let storage = match kind {
-                Kind::Bid => FileStorage::take::<Bid>(bytes),
-                Kind::Span => FileStorage::take::<Span>(bytes),
-            };
-            Ok(show_pages(rt, &storage, kind)?)
-        }
+        Ok((_, Kind::Bid)) => show_as::<Bid>(rt, bytes),
+        Ok((_, Kind::Span)) => show_as::<Span>(rt, bytes),
         Err(refusal) => refuse(rt, path, refusal),
     }
 }
 
+// Shows the pages of a file for this kind of entry.
+fn show_as<E: Worded>(rt: &HostRuntime, bytes: Vec<u8>) -> Result<(), Failure>
+where
+    InWords<E>: fmt::Display,
+{
+    Ok(show_pages::<E, _>(rt, &FileStorage::take::<E>(bytes))?)
+}
+
+// Says why a file is refused.
 fn refuse(rt: &HostRuntime, path: &str, refusal: OpenRefusal) -> Result<(), Failure> {
     println!(rt; "{path} is refused: {}.", InWords(refusal))?;
     Err(Failure)
@@ -97,39 +88,17 @@ fn opened(bytes: &[u8]) -> Result<(usize, Kind), OpenRefusal> {
     }
 }
 
-fn kind_number(kind: Kind) -> u8 {
-    match kind {
-        Kind::Bid => <Bid as storage::entry::Entry>::KIND,
-        Kind::Span => <Span as storage::entry::Entry>::KIND,
-    }
-}
-
 // The bytes of a file, as far as a transfer file may reach. Where it cannot be read, that is said.
 fn read(rt: &HostRuntime, path: &str) -> Result<Vec<u8>, Failure> {
-    match read_start(rt, path) {
-        Ok(bytes) => Ok(bytes),
-        Err(error) => {
-            println!(rt; "{path} cannot be read: {error}.")?;
-            Err(Failure)
-        }
-    }
+    read_start(rt, path).try_map_err(|error| -> Result<Failure, Failure> {
+        println!(rt; "{path} cannot be read: {error}.")?;
+        Ok(Failure)
+    })
 }
 
+// Reads a file to its end, or to one byte more than a transfer file may have.
 fn read_start(rt: &HostRuntime, path: &str) -> io::Result<Vec<u8>> {
-    let mut file = File::open(rt, path)?;
     let mut bytes = Vec::new(rt.alloc());
-    for _ in 0..MOST {
-        if bytes.len() >= MOST || read_more(&mut file, &mut bytes)? == 0 {
-            break;
-        }
-    }
+    File::open(rt, path)?.take(MOST).read_to_end(&mut bytes)?;
     Ok(bytes)
-}
-
-// Reads some bytes more, and says how many: 0 at the end of the file.
-fn read_more(file: &mut File, bytes: &mut Vec<u8>) -> io::Result<usize> {
-    let mut part = [0u8; MOST];
-    let got = file.read(&mut part)?;
-    bytes.extend_from_slice(&part[0..got])?;
-    Ok(got)
 }

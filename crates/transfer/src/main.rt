@@ -10,7 +10,7 @@ mod words;
 use command::{Command, command_of};
 use std::process::ExitCode;
 use std::{env, io};
-use storage::MemoryStorage;
+use storage::{Bid, Kind, MemoryStorage, Span};
 
 const USAGE: &str = "usage:
   transfer                             follow one lot from a blank storage to a file
@@ -35,25 +35,27 @@ fn main(rt: HostRuntime) -> ExitCode {
     }
 }
 
+// Does what the command line asks for.
 fn run(rt: &HostRuntime) -> Result<(), Failure> {
-    match words_of(rt) {
-        Ok(words) => obey(rt, &words),
-        Err(_) => show_usage(rt),
-    }
-}
-
-fn obey(rt: &HostRuntime, words: &[String]) -> Result<(), Failure> {
-    match command_of(words) {
+    let Ok(words) = words_of(rt) else {
+        return show_usage(rt);
+    };
+    let Some(command) = command_of(&words) else {
+        return show_usage(rt);
+    };
+    match command {
         Command::Walk => start_walk(rt),
         Command::Blank {
             replicas,
             kind,
             stores,
             path,
-        } => files::make(rt, replicas, kind, stores, path),
+        } => match kind {
+            Kind::Bid => files::make::<Bid>(rt, replicas, stores, path),
+            Kind::Span => files::make::<Span>(rt, replicas, stores, path),
+        },
         Command::Check(path) => files::check(rt, path),
         Command::Show(path) => files::show(rt, path),
-        Command::Unknown => show_usage(rt),
     }
 }
 
@@ -67,6 +69,7 @@ fn words_of(rt: &HostRuntime) -> io::Result<Vec<String>> {
     Ok(env::args(rt)?.collect(rt.alloc())?)
 }
 
+// Follows one lot in a storage in memory.
 fn start_walk(rt: &HostRuntime) -> Result<(), Failure> {
     match MemoryStorage::blank(rt.alloc(), 3, 5) {
         Ok(memory) => Ok(walk::follow(rt, memory)?),

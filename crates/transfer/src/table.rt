@@ -2,16 +2,19 @@
 ghost use Rattle.std.specs.Prelude.{◌≡◌};
 ghost use Rattle.storage.specs.Storages.{answered};
 
-use crate::command::Kind;
-use crate::words::InWords;
-use std::io;
-use storage::{Bid, Entry, Page, Span, Storage, StorageFault};
+use crate::words::{InWords, Worded};
+use std::{fmt, io};
+use storage::{Page, Storage, StorageFault};
 
-pub fn show_pages<S: Storage>(rt: &HostRuntime, storage: &S, kind: Kind) -> io::Result<()> {
+pub fn show_pages<E: Worded, S: Storage>(rt: &HostRuntime, storage: &S) -> io::Result<()>
+where
+    InWords<E>: fmt::Display,
+{
     println!(rt; "office  stores left  spell        mark  entry")?;
+    // A range: the number of the replica is printed, and nothing is indexed.
     for i in 0..storage.replicas() {
         match page_and_left(storage, i) {
-            Ok((page, left)) => show_page(rt, i, &page, left, kind)?,
+            Ok((page, left)) => show_page::<E>(rt, i, &page, left)?,
             Err(fault) => println!(rt; "refused: {}", InWords(fault))?,
         }
     }
@@ -19,31 +22,31 @@ pub fn show_pages<S: Storage>(rt: &HostRuntime, storage: &S, kind: Kind) -> io::
 }
 
 // The line of replica i: what it has kept, and the write that it intends, if any.
-fn show_page(rt: &HostRuntime, i: usize, page: &Page, left: u32, kind: Kind) -> io::Result<()> {
+fn show_page<E: Worded>(rt: &HostRuntime, i: usize, page: &Page, left: u32) -> io::Result<()>
+where
+    InWords<E>: fmt::Display,
+{
     let incarnation = page.incarnation;
     let sequence = page.written.sequence;
     let replica = page.written.replica;
     print!(rt; "{i:>6}  {left:>11}  {incarnation:>5}  {sequence:>7}.{replica:<2}  ")?;
-    print_entry(rt, page.written_code, kind)?;
+    print_entry::<E>(rt, page.written_code)?;
     if page.intended_sequence > 0 {
         let intended = page.intended_sequence;
         print!(rt; "; intends {intended}.{i} ")?;
-        print_entry(rt, page.intended_code, kind)?;
+        print_entry::<E>(rt, page.intended_code)?;
     }
     println!(rt; "")
 }
 
 // The entry of a code in words.
-fn print_entry(rt: &HostRuntime, code: u64, kind: Kind) -> io::Result<()> {
-    match kind {
-        Kind::Bid => match Bid::decode(code) {
-            Some(bid) => print!(rt; "{}", InWords(bid)),
-            None => print!(rt; "no bid has code {code}"),
-        },
-        Kind::Span => match Span::decode(code) {
-            Some(span) => print!(rt; "{}", InWords(span)),
-            None => print!(rt; "no span has code {code}"),
-        },
+fn print_entry<E: Worded>(rt: &HostRuntime, code: u64) -> io::Result<()>
+where
+    InWords<E>: fmt::Display,
+{
+    match E::decode(code) {
+        Some(entry) => print!(rt; "{}", InWords(entry)),
+        None => print!(rt; "no {} has code {code}", E::NAME),
     }
 }
 

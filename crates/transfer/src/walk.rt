@@ -4,7 +4,6 @@ ghost use Rattle.storage.specs.Bids.{bid_code};
 ghost use Rattle.storage.specs.Storages.{stored, updated};
 ghost use Rattle.transfer.specs.Walks.{offer_or_open, with_written};
 
-use crate::command::Kind;
 use crate::table::{page_and_left, show_pages};
 use crate::words::InWords;
 use std::io;
@@ -34,10 +33,10 @@ pub fn follow(rt: &HostRuntime, memory: MemoryStorage) -> io::Result<()> {
         }
     }
     println!(rt; "All pages, under the quota:")?;
-    show_pages(rt, &quota, Kind::Bid)?;
+    show_pages::<Bid, _>(rt, &quota)?;
     let memory = quota.into_below();
     println!(rt; "All pages, the quota taken off:")?;
-    show_pages(rt, &memory, Kind::Bid)?;
+    show_pages::<Bid, _>(rt, &memory)?;
     send(rt, &memory)
 }
 
@@ -45,13 +44,10 @@ pub fn follow(rt: &HostRuntime, memory: MemoryStorage) -> io::Result<()> {
 fn bid_of(cents: u32, buyer: u16) -> Bid
     ensures { result ≡ offer_or_open cents buyer }
 {
-    match Price::new(cents) {
-        Some(price) => match Buyer::new(buyer) {
-            Some(buyer) => Bid::Offer { price, buyer },
-            None => Bid::Open,
-        },
-        None => Bid::Open,
-    }
+    let (Some(price), Some(buyer)) = (Price::new(cents), Buyer::new(buyer)) else {
+        return Bid::Open;
+    };
+    Bid::Offer { price, buyer }
 }
 
 // Stores a page with this bid as the newest entry that the replica has kept.
@@ -106,13 +102,6 @@ fn send<S: Storage>(rt: &HostRuntime, storage: &S) -> io::Result<()> {
 
 // Whether two storages have the same replicas, pages and stores left.
 fn same_pages<S: Storage, T: Storage>(one: &S, other: &T) -> bool {
-    if one.replicas() != other.replicas() {
-        return false;
-    }
-    for i in 0..one.replicas() {
-        if page_and_left(one, i) != page_and_left(other, i) {
-            return false;
-        }
-    }
-    true
+    one.replicas() == other.replicas()
+        && (0..one.replicas()).all(|i| page_and_left(one, i) == page_and_left(other, i))
 }

@@ -3,11 +3,24 @@ ghost use Rattle.std.specs.Prelude.{Some};
 ghost use Rattle.transfer.specs.Words.{bid_words, fault_words, open_words, reason_words, span_words, timestamp_words, write_words};
 
 use std::fmt;
-use storage::{Bid, OpenRefusal, Reason, Span, StorageFault, Timestamp, WriteRefusal};
+use storage::{Bid, Entry, OpenRefusal, Reason, Span, StorageFault, Timestamp, WriteRefusal};
 
 // What is to be printed in words.
 #[derive(Clone, Copy)]
 pub struct InWords<T>(pub T);
+
+// A kind of entry, and what its entries are called.
+pub trait Worded: Entry {
+    const NAME: &'static str;
+}
+
+impl Worded for Bid {
+    const NAME: &'static str = "bid";
+}
+
+impl Worded for Span {
+    const NAME: &'static str = "span";
+}
 
 impl fmt::Display for InWords<Bid> {
     ghost output = { λ b. Some (bid_words b.0) };

@@ -14,6 +14,7 @@ use storage::stable::memory::MakeError;
 impl Session {
     // A session in which nothing has been read. Whatever bytes are fed to it, what they print is what
     // the lines that they make print.
+    #[tactic(auto, using(crate::proofs::LineCutting::lines_rehearsed))]
     pub fn new(heap: Global) -> Result<Session, AllocError>
         ensures made { IfOk result (λ s. session_of s ≡ begun) }
         ensures lines { (input : List ℕ) → session_lines begun input ≡ rehearsed waiting (input_lines input) }

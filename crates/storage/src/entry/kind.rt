@@ -1,0 +1,43 @@
+// The kinds of entry, each with the number by which a file and a first line name it.
+ghost use Rattle.std.specs.Prelude.{◌≡◌, Ok};
+ghost use Rattle.storage.specs.Kinds.{kind_number, kind_of};
+
+use crate::entry::Entry;
+use crate::entry::bid::Bid;
+use crate::entry::span::Span;
+
+#[derive(Clone, Copy, PartialEq, Eq, Debug)]
+pub enum Kind {
+    Bid,
+    Span,
+}
+
+// A number that no kind has.
+#[derive(Clone, Copy, PartialEq, Eq, Debug)]
+pub struct NoSuchKind(pub u64);
+
+impl TryFrom<u64> for Kind {
+    type Error = NoSuchKind;
+
+    ghost try_from_gives = { λ number kind. kind ≡ kind_of number };
+
+    fn try_from(number: u64) -> Result<Kind, NoSuchKind> {
+        match number {
+            1 => Ok(Kind::Bid),
+            2 => Ok(Kind::Span),
+            _ => Err(NoSuchKind(number)),
+        }
+    }
+}
+
+impl From<Kind> for u8 {
+    // and the number leads back to the kind
+    ghost from_gives = { λ kind number. (number ≡ kind_number kind) × (kind_of number ≡ Ok kind) };
+
+    fn from(kind: Kind) -> u8 {
+        match kind {
+            Kind::Bid => Bid::KIND,
+            Kind::Span => Span::KIND,
+        }
+    }
+}
