@@ -19,7 +19,8 @@ use std::io::Read;
 use std::process::ExitCode;
 use storage::stable::memory::MakeError;
 
-// Why the program ends with status 1: standard input or output failed, or there was no memory.
+// Why the program ends with status 1: standard input or output failed, or there was no memory. The other
+// program has a type of its own: one program is no library for another.
 #[derive(Drop)]
 struct Failure;
 

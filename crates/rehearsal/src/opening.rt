@@ -34,7 +34,7 @@ fn within_range(replicas: u64, kind: u64, stores: u64) -> Option<Opening>
     ensures value { result ≡ within_range replicas kind stores }
     ensures fits { IfSome result (λ o. count_fits o.replicas ≡ true) }
 {
-    if replicas < 1 || replicas > 15 {
+    if !(1..=15).contains(&replicas) {
         return None;
     }
     Some(Opening {

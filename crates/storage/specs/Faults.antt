@@ -11,6 +11,10 @@ reason_number NoStoresLeft = 17
 abbrev pub fault_number : StorageFault → ℕ
 fault_number f = reason_number f.reason
 
+-- the storage that was called refuses replica i, for this reason
+abbrev pub refused : Reason → ℕ → StorageFault
+refused r i = record { reason = r; replica = i; layer = 0 }
+
 -- there is no replica i
 abbrev pub no_replica : ℕ → StorageFault
 no_replica i = record { reason = NoSuchReplica; replica = i; layer = 0 }

@@ -1,6 +1,6 @@
 // How stable storage refuses.
 ghost use Rattle.std.specs.Prelude.{◌≡◌};
-ghost use Rattle.storage.specs.Faults.{fault_number, lifted, no_replica, no_stores};
+ghost use Rattle.storage.specs.Faults.{fault_number, lifted, refused};
 
 // Why; the discriminant is the number of the refusal.
 #[derive(Clone, Copy, PartialEq, Eq, Debug)]
@@ -25,23 +25,12 @@ impl StorageFault {
         self.reason as u8
     }
 
-    // There is no such replica: a fault of the storage that was called.
-    pub(crate) fn no_such_replica(replica: usize) -> StorageFault
-        ensures { result ≡ no_replica replica }
+    // The storage that was called refuses a replica.
+    pub fn new(reason: Reason, replica: usize) -> StorageFault
+        ensures { result ≡ refused reason replica }
     {
         StorageFault {
-            reason: Reason::NoSuchReplica,
-            replica,
-            layer: 0,
-        }
-    }
-
-    // The storage that was called has no store left for a replica.
-    pub(crate) fn no_stores_left(replica: usize) -> StorageFault
-        ensures { result ≡ no_stores replica 0 }
-    {
-        StorageFault {
-            reason: Reason::NoStoresLeft,
+            reason,
             replica,
             layer: 0,
         }

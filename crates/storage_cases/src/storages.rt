@@ -1,5 +1,4 @@
 // Every refusal of a storage in memory, and what it leaves.
-use crate::wide::refused;
 use std::test::Fail;
 use storage::{MemoryStorage, Page, Reason, Storage, StorageFault, Timestamp};
 
@@ -57,7 +56,7 @@ fn a_store_takes_one_until_none_is_left(rt: HostRuntime) -> Result<(), Fail> {
 fn a_replica_past_the_last_is_refused_before_anything_else(rt: HostRuntime) -> Result<(), Fail> {
     let mut storage = MemoryStorage::blank(rt.alloc(), 1, 0)?;
     for i in [1, 14, 15, usize::MAX] {
-        let fault = refused(Reason::NoSuchReplica, i);
+        let fault = StorageFault::new(Reason::NoSuchReplica, i);
         assert_eq!(rt; storage.page(i), Err(fault));
         assert_eq!(rt; storage.stores_left(i), Err(fault));
         assert_eq!(rt; fault_parts(storage.store(i, sample(1))), (8, i, 0));

@@ -27,17 +27,7 @@ impl WideStorage {
         self.cells
             .get(i)
             .copied()
-            .ok_or(refused(Reason::NoSuchReplica, i))
-    }
-}
-
-pub fn refused(reason: Reason, replica: usize) -> StorageFault
-    ensures { result ≡ record { reason = reason; replica = replica; layer = 0 } }
-{
-    StorageFault {
-        reason,
-        replica,
-        layer: 0,
+            .ok_or(StorageFault::new(Reason::NoSuchReplica, i))
     }
 }
 
@@ -69,7 +59,7 @@ impl Storage for WideStorage {
             .cell(i)?
             .left
             .checked_sub(1)
-            .ok_or(refused(Reason::NoStoresLeft, i))?;
+            .ok_or(StorageFault::new(Reason::NoStoresLeft, i))?;
         self.cells[i] = Cell { page: new, left };
         Ok(())
     }

@@ -9,7 +9,7 @@ ghost use Rattle.storage.specs.Storages.{answered, stored, updated};
 ghost use Rattle.std.proofs.Common.{rules};
 
 use crate::entry::Entry;
-use crate::fault::StorageFault;
+use crate::fault::{Reason, StorageFault};
 use crate::file::layout::Layout;
 use crate::file::opening::open;
 use crate::file::records::{put_record, record_at};
@@ -64,7 +64,7 @@ impl FileStorage {
         if i < self.count {
             Ok(record_at(&self.bytes, self.place(i)))
         } else {
-            Err(StorageFault::no_such_replica(i))
+            Err(StorageFault::new(Reason::NoSuchReplica, i))
         }
     }
 

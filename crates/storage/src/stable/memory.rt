@@ -5,7 +5,7 @@ ghost use Rattle.storage.specs.Storages.{answered};
 ghost use Rattle.storage.specs.declared.stable.memory.MakeError.TheVariants.{NoMemory};
 ghost use Rattle.std.proofs.Common.{rules};
 
-use crate::fault::StorageFault;
+use crate::fault::{Reason, StorageFault};
 use crate::page::Page;
 use crate::stable::Storage;
 use std::alloc::{AllocError, Global};
@@ -25,7 +25,7 @@ impl Cell {
         let left = self
             .left
             .checked_sub(1)
-            .ok_or(StorageFault::no_stores_left(i))?;
+            .ok_or(StorageFault::new(Reason::NoStoresLeft, i))?;
         Ok(Cell { page: new, left })
     }
 }
@@ -81,7 +81,7 @@ impl MemoryStorage {
         self.cells
             .get(i)
             .copied()
-            .ok_or(StorageFault::no_such_replica(i))
+            .ok_or(StorageFault::new(Reason::NoSuchReplica, i))
     }
 }
 

@@ -3,7 +3,7 @@ ghost use Rattle.std.specs.Prelude.{◌≡◌, ◌<◌, length, slice_index};
 ghost use Rattle.storage.specs.Quotas.{allowed, layer_under, left_under};
 ghost use Rattle.std.proofs.Common.{rules};
 
-use crate::fault::StorageFault;
+use crate::fault::{Reason, StorageFault};
 use crate::page::Page;
 use crate::stable::Storage;
 use std::array;
@@ -77,11 +77,11 @@ impl<S: Storage> Storage for QuotaStorage<S> {
 
     fn store(&mut self, i: usize, new: Page) -> Result<(), StorageFault> {
         if i >= self.below.replicas() {
-            return Err(StorageFault::no_such_replica(i));
+            return Err(StorageFault::new(Reason::NoSuchReplica, i));
         }
         let left = number_at(&self.allowances, i)
             .checked_sub(1)
-            .ok_or(StorageFault::no_stores_left(i))?;
+            .ok_or(StorageFault::new(Reason::NoStoresLeft, i))?;
         self.below
             .store(i, new)
             .map_err(|fault| fault.from_below())?;
