@@ -1,5 +1,5 @@
 -- A register of a table in memory and the majority, once it is made. Assumes nothing.
-use Rattle.std.proofs.Common.{◌≡◌, ℕ, ◌≤◌, List, length, replicate, is_some, Ok, Err, Result, vec_items, vec_len, Option, ap, ◌∙◌}
+use Rattle.std.proofs.Common.{◌≡◌, ℕ, ◌≤◌, List, length, replicate, Ok, Err, Result, vec_items, vec_len, ap, ◌∙◌}
 use native.Mathlib.Decide.{dec_le}
 use lib.ListN.{length-replicate}
 use Rattle.cluster.specs.Fitness.{of_kind}

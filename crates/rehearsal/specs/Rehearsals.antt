@@ -1,5 +1,5 @@
 -- A rehearsal: what each line brings about and prints. Assumes nothing.
-use Rattle.std.specs.Prelude.{ℕ, Bool, true, false, List, [], ◌∷◌, ◌++◌, replicate, is_some, Some, None, Ok, Err, vec_items, vec_len, Option, Result}
+use Rattle.std.specs.Prelude.{ℕ, Bool, true, false, List, [], ◌∷◌, ◌++◌, replicate, is_some, Some, None, Ok, Err, Option, Result}
 use Rattle.cluster.specs.Acts.{acted}
 use Rattle.cluster.specs.Questions.{counted}
 use Rattle.cluster.specs.States.{Setup, State, begins, setup_of, state_of}
