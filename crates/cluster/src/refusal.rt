@@ -31,7 +31,7 @@ impl From<ReplicaRefusal> for Refusal {
 }
 
 impl Refusal {
-    // By a match: a variant that holds a value cannot be cast to its number.
+    // By a match: an enum with a variant that holds a value has no numbers of its own.
     pub fn number(&self) -> u8
         ensures { result ≡ number_of self.now }
     {

@@ -23,7 +23,7 @@ pub enum Cause {
 #[derive(Clone, Copy, PartialEq, Eq, Debug)]
 pub struct ReplicaFault {
     pub cause: Cause,
-    // no public call leaves it out
+    // none until the caller of storage names it: no call of a replica returns one without
     pub task: Option<Task>,
 }
 
@@ -39,17 +39,17 @@ impl From<StorageFault> for ReplicaFault {
 }
 
 impl ReplicaFault {
-    // The same fault, with the task named: the caller of storage knows it.
-    pub(crate) fn during(self, task: Task) -> ReplicaFault
-        ensures { result ≡ tasked task self }
+    // A refusal of storage, met at this task: the caller of storage knows it.
+    pub(crate) fn at(task: Task, fault: StorageFault) -> ReplicaFault
+        ensures { result ≡ tasked task (met fault) }
     {
         ReplicaFault {
             task: Some(task),
-            ..self
+            ..ReplicaFault::from(fault)
         }
     }
 
-    // By a match: a variant that holds a value cannot be cast to its number.
+    // By a match: an enum with a variant that holds a value has no numbers of its own.
     pub fn number(&self) -> u8
         ensures { result ≡ number_of self.now }
     {

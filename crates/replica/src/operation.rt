@@ -96,6 +96,7 @@ impl Replica {
         Message {
             kind,
             sender: site.own,
+            // until each is filled in: a second type of message would repeat all other fields
             receiver: 0,
             ticket: Ticket {
                 incarnation: site.page.incarnation,

@@ -30,7 +30,8 @@ impl Replica {
         self.follow(step, storage, quorum, &Site { own, page }, message)
     }
 
-    // Does what the step said.
+    // Does what the step said. Storage and site are two parameters here and below: a struct that held the
+    // borrow of storage would ask a clause more of each function.
     fn follow<S: Storage, Q: Quorum>(
         &mut self,
         step: Step,
@@ -69,9 +70,9 @@ impl Replica {
             written_code: message.code,
             ..site.page
         };
-        storage.store(site.own as usize, new).map_err(|fault| ReplicaFault::from(fault).during(
-            Task::KeepingUpdate,
-        ))?;
+        storage
+            .store(site.own as usize, new)
+            .map_err(|fault| ReplicaFault::at(Task::KeepingUpdate, fault))?;
         Ok(Reaction::reply(message.ack(), true))
     }
 
@@ -132,9 +133,9 @@ impl Replica {
             intended_code: code,
             ..site.page
         };
-        storage.store(site.own as usize, new).map_err(|fault| ReplicaFault::from(fault).during(
-            Task::NotingIntention,
-        ))?;
+        storage
+            .store(site.own as usize, new)
+            .map_err(|fault| ReplicaFault::at(Task::NotingIntention, fault))?;
         let round = self.round.saturating_add(1);
         *self = Replica::opening(Status::UpdatingWrite, round, chosen, code, code);
         Ok(Reaction::update(self.update(site), true))

@@ -26,9 +26,8 @@ impl Replica {
         if self.status != Status::Down {
             return Err(ReplicaRefusal::NotDown);
         }
-        let held = storage
-            .page(own as usize)
-            .map_err(|fault| ReplicaFault::from(fault).during(Task::Recovering))?;
+        let at = |fault| ReplicaFault::at(Task::Recovering, fault);
+        let held = storage.page(own as usize).map_err(at)?;
         if held.incarnation >= Replica::LAST_INCARNATION {
             return Err(ReplicaRefusal::IncarnationsUsedUp);
         }
@@ -36,9 +35,7 @@ impl Replica {
             incarnation: held.incarnation + 1,
             ..held
         };
-        storage
-            .store(own as usize, page)
-            .map_err(|fault| ReplicaFault::from(fault).during(Task::Recovering))?;
+        storage.store(own as usize, page).map_err(at)?;
         Ok(self.finish_intended(&Site { own, page }))
     }
 

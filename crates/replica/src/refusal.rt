@@ -32,7 +32,7 @@ impl From<ReplicaFault> for ReplicaRefusal {
 }
 
 impl ReplicaRefusal {
-    // By a match: a variant that holds a value cannot be cast to its number.
+    // By a match: an enum with a variant that holds a value has no numbers of its own.
     pub fn number(&self) -> u8
         ensures { result ≡ refusal_number self.now }
     {
