@@ -17,9 +17,9 @@ record_back c fit =
     let p = c.page in
     let e0 = number_back_4 c.left fit.left in
     let e1 = number_back_4 p.incarnation fit.incarnation in
-    let e2 = number_back_4 p.written.sequence fit.sequence in
-    let e3 = number_back_4 p.written.replica fit.replica in
-    let e4 = number_back_8 p.written_code fit.code in
+    let e2 = number_back_4 p.written.timestamp.sequence fit.sequence in
+    let e3 = number_back_4 p.written.timestamp.replica fit.replica in
+    let e4 = number_back_8 p.written.code fit.code in
     let e5 = number_back_4 p.intended_sequence fit.next_sequence in
     let e6 = number_back_8 p.intended_code fit.next_code in
     rw (e0, e1, e2, e3, e4, e5, e6)

@@ -9,9 +9,9 @@ unfoldable pub record_bytes : Cell → List ℕ
 record_bytes c =
     bytes_of 4 c.left
     ++ (bytes_of 4 c.page.incarnation
-    ++ (bytes_of 4 c.page.written.sequence
-    ++ (bytes_of 4 c.page.written.replica
-    ++ (bytes_of 8 c.page.written_code
+    ++ (bytes_of 4 c.page.written.timestamp.sequence
+    ++ (bytes_of 4 c.page.written.timestamp.replica
+    ++ (bytes_of 8 c.page.written.code
     ++ (bytes_of 4 c.page.intended_sequence
     ++ bytes_of 8 c.page.intended_code)))))
 
@@ -21,8 +21,7 @@ record_of bs = record {
   left = number_at bs 0 4;
   page = record {
     incarnation = number_at bs 4 4;
-    written = record { sequence = number_at bs 8 4; replica = number_at bs 12 4 };
-    written_code = number_at bs 16 8;
+    written = record { timestamp = record { sequence = number_at bs 8 4; replica = number_at bs 12 4 }; code = number_at bs 16 8 };
     intended_sequence = number_at bs 24 4;
     intended_code = number_at bs 28 8;
   };
@@ -40,8 +39,8 @@ records_with page left i = record { page = page i; left = left i }
 pub record Fit (c : Cell) : Type 0 where
   pub left : c.left < 2 ^ 32
   pub incarnation : c.page.incarnation < 2 ^ 32
-  pub sequence : c.page.written.sequence < 2 ^ 32
-  pub replica : c.page.written.replica < 2 ^ 32
-  pub code : c.page.written_code < 2 ^ 64
+  pub sequence : c.page.written.timestamp.sequence < 2 ^ 32
+  pub replica : c.page.written.timestamp.replica < 2 ^ 32
+  pub code : c.page.written.code < 2 ^ 64
   pub next_sequence : c.page.intended_sequence < 2 ^ 32
   pub next_code : c.page.intended_code < 2 ^ 64

@@ -1,9 +1,14 @@
 -- Timestamps and their order. Assumes nothing.
 use Rattle.std.specs.Prelude.{◌≡◌, Bool, true, false, ◌&&◌, ◌||◌, ◌⊎◌, ◌==◌, nat_lt}
+use Rattle.storage.specs.declared.stamped.Stamped.{Stamped}
 use Rattle.storage.specs.declared.timestamp.Timestamp.{Timestamp}
 
 abbrev pub blank_timestamp : Timestamp
 blank_timestamp = record { sequence = 0; replica = 0 }
+
+-- what a register holds that was never written
+abbrev pub blank_stamped : Stamped
+blank_stamped = record { timestamp = blank_timestamp; code = 0 }
 
 -- s comes after t: by sequence, and at one sequence by replica
 abbrev pub later : Timestamp → Timestamp → Bool

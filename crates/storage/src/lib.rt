@@ -9,6 +9,7 @@ pub mod page;
 pub mod quorum;
 pub mod replica_set;
 pub mod stable;
+pub mod stamped;
 pub mod timestamp;
 pub mod worked_cases;
 
@@ -31,4 +32,5 @@ pub use replica_set::ReplicaSet;
 pub use stable::Storage;
 pub use stable::memory::MemoryStorage;
 pub use stable::quota::QuotaStorage;
+pub use stamped::Stamped;
 pub use timestamp::Timestamp;

@@ -19,8 +19,7 @@ returns c =
     record {
       page = record {
         incarnation = incarnation j;
-        written = record { sequence = sequence j; replica = replica j };
-        written_code = code j;
+        written = record { timestamp = record { sequence = sequence j; replica = replica j }; code = code j };
         intended_sequence = next_sequence j;
         intended_code = next_code j;
       };
