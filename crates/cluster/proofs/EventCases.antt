@@ -26,12 +26,12 @@ use Rattle.replica.specs.declared.record.Status.{Status}
 use Rattle.replica.specs.declared.record.Status.TheVariants as status
 use Rattle.replica.specs.declared.refusal.ReplicaRefusal.TheVariants as refusal
 use Rattle.std.specs.List.{remove}
-use Rattle.storage.specs.Timestamps.{blank_timestamp}
+use Rattle.storage.specs.Timestamps.{blank_stamped}
 
 -- replica i begins an operation of this status with code c
 abbrev pub beginning : Setup → State → Status → ℕ → ℕ → State × Answer
 beginning u s st i c =
-    broadcasted u.replicas (with_record s i (opened st ((record_at s i).round + 1) blank_timestamp 0 c))
+    broadcasted u.replicas (with_record s i (opened st ((record_at s i).round + 1) blank_stamped c))
     (query i (ticket (s.page i).incarnation ((record_at s i).round + 1)))
 
 -- the state without the message at place p; that message
@@ -47,7 +47,7 @@ pub data Happens (at : ℕ) (u : Setup) (s : State) : Event → State × Answer 
   writes : (i c : ℕ) → i < u.replicas → u.valid c ≡ true → (record_at s i).status ≡ status.Idle → ltb 999997 (record_at s i).round ≡ false → Happens at u s (Write i c) (beginning u s status.QueryingToWrite i c)
   reads : (i : ℕ) → i < u.replicas → (record_at s i).status ≡ status.Idle → ltb 999997 (record_at s i).round ≡ false → Happens at u s (Read i) (beginning u s status.QueryingToRead i 0)
   resends_query : (i : ℕ) → i < u.replicas → Querying (record_at s i).status → Happens at u s (Resend i) (broadcasted u.replicas s (query i (ticket (s.page i).incarnation (record_at s i).round)))
-  resends_update : (i : ℕ) → i < u.replicas → Updating (record_at s i).status → Happens at u s (Resend i) (broadcasted u.replicas s (update i (ticket (s.page i).incarnation (record_at s i).round) (record_at s i).best (record_at s i).best_code))
+  resends_update : (i : ℕ) → i < u.replicas → Updating (record_at s i).status → Happens at u s (Resend i) (broadcasted u.replicas s (update i (ticket (s.page i).incarnation (record_at s i).round) (record_at s i).best))
   loses : (p : ℕ) → p < length s.transit → Happens at u s (Lose p) (without s p, quiet)
   crashes : (i : ℕ) → i < u.replicas → is_down (record_at s i).status ≡ false → Happens at u s (Crash i) (with_record s i down, quiet)
   comes_back : (i : ℕ) (a : Reaction) {x : Comeback} → i < u.replicas → Recovery (place_at u s i) (record_at s i) x → x.answer ≡ Ok a → Happens at u s (Recover i) (accepted u.replicas (with_effect s i x) a)
@@ -69,7 +69,7 @@ module _ (at : ℕ) (u : Setup) (s : State) where
   begins : {e : Event} (st : Status) (i c : ℕ) → ((record_at s i).status ≡ status.Idle → ltb 999997 (record_at s i).round ≡ false → Happens at u s e (beginning u s st i c)) → Happens at u s e (answering (calling u s i (begun st i (s.page i) (record_at s i) c)))
   begins {e} st i c h = go (record_at s i).status refl
     where
-      rounds : (record_at s i).status ≡ status.Idle → (b : Bool) → ltb 999997 (record_at s i).round ≡ b → Happens at u s e (answering (calling u s i (cond b (record_at s i, Err refusal.RoundsUsedUp) (opened st ((record_at s i).round + 1) blank_timestamp 0 c, Ok (query i (ticket (s.page i).incarnation ((record_at s i).round + 1)))))))
+      rounds : (record_at s i).status ≡ status.Idle → (b : Bool) → ltb 999997 (record_at s i).round ≡ b → Happens at u s e (answering (calling u s i (cond b (record_at s i, Err refusal.RoundsUsedUp) (opened st ((record_at s i).round + 1) blank_stamped c, Ok (query i (ticket (s.page i).incarnation ((record_at s i).round + 1)))))))
       rounds k true l = kept i (Replica refusal.RoundsUsedUp)
       rounds k false l = h k l
 

@@ -14,9 +14,9 @@ use Rattle.replica.specs.declared.reaction.Sending.{Sending}
 use Rattle.replica.specs.declared.reaction.Sending.TheVariants.{One, All}
 use Rattle.replica.specs.declared.record.Replica.{Replica}
 use Rattle.std.proofs.lemmas.Bool.{and_from, and_parts}
-use Rattle.storage.specs.Timestamps.{blank_timestamp, later}
+use Rattle.storage.specs.Timestamps.{blank_stamped, later}
 use Rattle.storage.specs.declared.page.Page.{Page}
-use Rattle.storage.specs.declared.timestamp.Timestamp.{Timestamp}
+use Rattle.storage.specs.declared.stamped.Stamped.{Stamped}
 
 abbrev pub FitStore : ℕ → (ℕ → Bool) → Option Page → Type 0
 FitStore n valid None = Unit {0}
@@ -38,30 +38,30 @@ pub record FitEffect {F : Type 0} (n : ℕ) (valid : ℕ → Bool) (x : Effect (
   pub sends : FitAnswer n valid x.answer
 
 module _ (n : ℕ) (valid : ℕ → Bool) where
-  pub blank_fits : 0 < n → valid 0 ≡ true → written_fits n valid blank_timestamp 0 ≡ true
+  pub blank_fits : 0 < n → valid 0 ≡ true → written_fits n valid blank_stamped ≡ true
   blank_fits l v = rw (lt-ltb 0 n l, v)
 
   intended_fits : (q c : ℕ) → 0 < q → q ≤ 999999 → valid c ≡ true → code_fits valid q c ≡ true
   intended_fits q c p m v = rw (le-leb q 999999 m, v, lt-ltb 0 q p)
 
   -- replica i may write at sequence q
-  own_fits : (i q c : ℕ) → i < n → 0 < q → q ≤ 999999 → valid c ≡ true → written_fits n valid (record { sequence = q; replica = i }) c ≡ true
+  own_fits : (i q c : ℕ) → i < n → 0 < q → q ≤ 999999 → valid c ≡ true → written_fits n valid (record { timestamp = record { sequence = q; replica = i }; code = c }) ≡ true
   own_fits i q c l p m v = rw (lt-ltb i n l, intended_fits q c p m v, lt-ltb 0 q p)
 
   -- what a fit page holds
-  page_parts : (p : Page) → page_fits n valid p ≡ true → (leb p.incarnation 9999 ≡ true) × (written_fits n valid p.written p.written_code ≡ true) × (code_fits valid p.intended_sequence p.intended_code ≡ true)
+  page_parts : (p : Page) → page_fits n valid p ≡ true → (leb p.incarnation 9999 ≡ true) × (written_fits n valid p.written ≡ true) × (code_fits valid p.intended_sequence p.intended_code ≡ true)
   page_parts p h =
       let rest = and_parts (leb p.incarnation 9999) _ h in
-      let place = and_parts (ltb p.written.replica n) _ rest.1 in
-      let coded = and_parts (code_fits valid p.written.sequence p.written_code) _ place.1 in
-      let last = and_parts (ltb 0 p.written.sequence || eqb p.written.replica 0) _ coded.1 in
+      let place = and_parts (ltb p.written.timestamp.replica n) _ rest.1 in
+      let coded = and_parts (code_fits valid p.written.timestamp.sequence p.written.code) _ place.1 in
+      let last = and_parts (ltb 0 p.written.timestamp.sequence || eqb p.written.timestamp.replica 0) _ coded.1 in
       (rest.0, and_from _ _ place.0 (and_from _ _ coded.0 last.0), last.1)
 
   -- and a page that holds such parts is fit
-  page_from : (i : ℕ) (t : Timestamp) (c q d : ℕ) → leb i 9999 ≡ true → written_fits n valid t c ≡ true → code_fits valid q d ≡ true → page_fits n valid (record { incarnation = i; written = t; written_code = c; intended_sequence = q; intended_code = d }) ≡ true
-  page_from i t c q d l w h =
-      let place = and_parts (ltb t.replica n) _ w in
-      let coded = and_parts (code_fits valid t.sequence c) _ place.1 in
+  page_from : (i : ℕ) (w : Stamped) (q d : ℕ) → leb i 9999 ≡ true → written_fits n valid w ≡ true → code_fits valid q d ≡ true → page_fits n valid (record { incarnation = i; written = w; intended_sequence = q; intended_code = d }) ≡ true
+  page_from i w q d l k h =
+      let place = and_parts (ltb w.timestamp.replica n) _ k in
+      let coded = and_parts (code_fits valid w.timestamp.sequence w.code) _ place.1 in
       and_from _ _ l (and_from _ _ place.0 (and_from _ _ coded.0 (and_from _ _ coded.1 h)))
 
   code_parts : (q c : ℕ) → code_fits valid q c ≡ true → (q ≤ 999999) × (valid c ≡ true)
@@ -69,25 +69,25 @@ module _ (n : ℕ) (valid : ℕ → Bool) where
       let rest = and_parts (leb q 999999) _ h in
       (leb-true q 999999 rest.0, (and_parts (valid c) _ rest.1).0)
 
-  pub best_fits : (r : Replica) → record_fits n valid r ≡ true → written_fits n valid r.best r.best_code ≡ true
+  pub best_fits : (r : Replica) → record_fits n valid r ≡ true → written_fits n valid r.best ≡ true
   best_fits r h = (and_parts _ _ h).0
 
   pub wanted_fits : (r : Replica) → record_fits n valid r ≡ true → valid r.write_code ≡ true
   wanted_fits r h = (and_parts _ _ h).1
 
   heard_fits : (r : Replica) (m : Message) → record_fits n valid r ≡ true → message_fits n valid m ≡ true → record_fits n valid (hearing_report r m) ≡ true
-  heard_fits r m h k = and_from _ _ (go (later m.timestamp r.best)) (wanted_fits r h)
+  heard_fits r m h k = and_from _ _ (go (later m.content.timestamp r.best.timestamp)) (wanted_fits r h)
     where
-      go : (b : Bool) → written_fits n valid (cond b m.timestamp r.best) (cond b m.code r.best_code) ≡ true
+      go : (b : Bool) → written_fits n valid (cond b m.content r.best) ≡ true
       go true = k
       go false = best_fits r h
 
   module _ (a : Place) (r : Replica) (own : a.own < n) (zero : valid 0 ≡ true) (page : page_fits n valid a.page ≡ true) (holds : record_fits n valid r ≡ true) where
-    blank : written_fits n valid blank_timestamp 0 ≡ true
+    blank : written_fits n valid blank_stamped ≡ true
     blank = blank_fits (omega arith) zero
 
     -- the writer's next timestamp
-    next : (q c : ℕ) → leb 999999 q ≡ false → valid c ≡ true → written_fits n valid (record { sequence = q + 1; replica = a.own }) c ≡ true
+    next : (q c : ℕ) → leb 999999 q ≡ false → valid c ≡ true → written_fits n valid (record { timestamp = record { sequence = q + 1; replica = a.own }; code = c }) ≡ true
     next q c l v = let below = leb-false 999999 q l in own_fits a.own (q + 1) c own (omega arith) (omega arith) v
 
     module _ (enough : (ℕ → Bool) → Bool) (m : Message) (carries : message_fits n valid m ≡ true) where
@@ -97,7 +97,7 @@ module _ (n : ℕ) (valid : ℕ → Bool) where
       receipt_fits (replica.acknowledges e) = record { holds = holds; stores = tt; sends = blank }
       receipt_fits (replica.keeps e k) = record {
         holds = holds;
-        stores = page_from a.page.incarnation m.timestamp m.code a.page.intended_sequence a.page.intended_code (page_parts a.page page).0 carries (page_parts a.page page).2;
+        stores = page_from a.page.incarnation m.content a.page.intended_sequence a.page.intended_code (page_parts a.page page).0 carries (page_parts a.page page).2;
         sends = blank;
       }
       receipt_fits (replica.keeps_not f e k) = record { holds = holds; stores = tt; sends = tt }
@@ -109,13 +109,13 @@ module _ (n : ℕ) (valid : ℕ → Bool) where
       }
       receipt_fits (replica.write_ends e q w l) = record { holds = heard_fits r m holds carries; stores = tt; sends = tt }
       receipt_fits (replica.write_updates e q w l k) =
-          let sequence = (hearing_report r m).best.sequence in
+          let sequence = (hearing_report r m).best.timestamp.sequence in
           let code = r.write_code in
           let wanted = wanted_fits r holds in
           let below = leb-false 999999 sequence l in
           record {
             holds = and_from _ _ (next sequence code l wanted) wanted;
-            stores = page_from a.page.incarnation a.page.written a.page.written_code (sequence + 1) code (page_parts a.page page).0 (page_parts a.page page).1 (intended_fits (sequence + 1) code (omega arith) (omega arith) wanted);
+            stores = page_from a.page.incarnation a.page.written (sequence + 1) code (page_parts a.page page).0 (page_parts a.page page).1 (intended_fits (sequence + 1) code (omega arith) (omega arith) wanted);
             sends = next sequence code l wanted;
           }
       receipt_fits (replica.write_fails f e q w l k) = record { holds = heard_fits r m holds carries; stores = tt; sends = tt }

@@ -8,7 +8,7 @@ use Rattle.replica.specs.Receipts.{Received, acknowledged, as_reaction, failing,
 use Rattle.replica.specs.Faults.{used_up}
 use Rattle.replica.specs.Records.{hearing, hearing_report, idle, opened, with_status}
 use Rattle.replica.specs.Recoveries as recovery
-use Rattle.replica.specs.Recoveries.{Comeback, is_down, raised, recovered, recovered_from}
+use Rattle.replica.specs.Recoveries.{Comeback, intended, is_down, raised, recovered, recovered_from}
 use Rattle.replica.specs.Steps.{action, noticed}
 use Rattle.replica.specs.declared.message.Message.{Message}
 use Rattle.replica.specs.declared.reaction.Outcome.TheVariants.{Recovered}
@@ -27,15 +27,15 @@ use Rattle.storage.specs.declared.fault.StorageFault.{StorageFault}
 -- a message m at a replica with record r, by the action that it asks for and the tests that follow
 pub data Receipt (enough : (ℕ → Bool) → Bool) (a : Place) (r : Replica) (m : Message) : Received → Type 0 where
   ignores : Receipt enough a r m (reacting r nothing)
-  reports : Asks a.page r m Report → Receipt enough a r m (reacting r (replying (report m a.page.written a.page.written_code) false))
+  reports : Asks a.page r m Report → Receipt enough a r m (reacting r (replying (report m a.page.written) false))
   acknowledges : Asks a.page r m Acknowledge → Receipt enough a r m (reacting r (replying (ack m) false))
   keeps : Asks a.page r m Keep → store_at a ≡ Ok tt → Receipt enough a r m (kept_if (Ok tt) a r m)
   keeps_not : (f : StorageFault) → Asks a.page r m Keep → store_at a ≡ Err f → Receipt enough a r m (kept_if (Err f) a r m)
   queries_on : Asks a.page r m HearReport → enough (member (hearing_report r m).heard) ≡ false → Receipt enough a r m (reacting (hearing_report r m) nothing)
   read_updates : Asks a.page r m HearReport → enough (member (hearing_report r m).heard) ≡ true → is_reading r.status ≡ true → Receipt enough a r m (as_reaction (reader_updates a.own a.page (hearing_report r m)))
-  write_ends : Asks a.page r m HearReport → enough (member (hearing_report r m).heard) ≡ true → is_reading r.status ≡ false → leb 999999 (hearing_report r m).best.sequence ≡ true → Receipt enough a r m (failing (with_status status.Idle (hearing_report r m)) (used_up a.own))
-  write_updates : Asks a.page r m HearReport → enough (member (hearing_report r m).heard) ≡ true → is_reading r.status ≡ false → leb 999999 (hearing_report r m).best.sequence ≡ false → store_at a ≡ Ok tt → Receipt enough a r m (intended_if (Ok tt) a (hearing_report r m))
-  write_fails : (f : StorageFault) → Asks a.page r m HearReport → enough (member (hearing_report r m).heard) ≡ true → is_reading r.status ≡ false → leb 999999 (hearing_report r m).best.sequence ≡ false → store_at a ≡ Err f → Receipt enough a r m (intended_if (Err f) a (hearing_report r m))
+  write_ends : Asks a.page r m HearReport → enough (member (hearing_report r m).heard) ≡ true → is_reading r.status ≡ false → leb 999999 (hearing_report r m).best.timestamp.sequence ≡ true → Receipt enough a r m (failing (with_status status.Idle (hearing_report r m)) (used_up a.own))
+  write_updates : Asks a.page r m HearReport → enough (member (hearing_report r m).heard) ≡ true → is_reading r.status ≡ false → leb 999999 (hearing_report r m).best.timestamp.sequence ≡ false → store_at a ≡ Ok tt → Receipt enough a r m (intended_if (Ok tt) a (hearing_report r m))
+  write_fails : (f : StorageFault) → Asks a.page r m HearReport → enough (member (hearing_report r m).heard) ≡ true → is_reading r.status ≡ false → leb 999999 (hearing_report r m).best.timestamp.sequence ≡ false → store_at a ≡ Err f → Receipt enough a r m (intended_if (Err f) a (hearing_report r m))
   updates_on : Asks a.page r m HearAck → enough (member (hearing r m).heard) ≡ false → Receipt enough a r m (as_reaction (hearing r m, nothing))
   finishes : Asks a.page r m HearAck → enough (member (hearing r m).heard) ≡ true → Receipt enough a r m (as_reaction (with_status status.Idle (hearing r m), ending (reported r.status (hearing r m)) false))
 
@@ -51,17 +51,17 @@ module _ (enough : (ℕ → Bool) → Bool) (a : Place) (r : Replica) (m : Messa
       heard : Replica
       heard = hearing_report r m
 
-      intend : enough (member heard.heard) ≡ true → is_reading r.status ≡ false → leb 999999 heard.best.sequence ≡ false → (x : Result (Unit {0}) StorageFault) → store_at a ≡ x → Receipt enough a r m (intended_if x a heard)
+      intend : enough (member heard.heard) ≡ true → is_reading r.status ≡ false → leb 999999 heard.best.timestamp.sequence ≡ false → (x : Result (Unit {0}) StorageFault) → store_at a ≡ x → Receipt enough a r m (intended_if x a heard)
       intend q w l (Ok u) k = write_updates e q w l k
       intend q w l (Err f) k = write_fails f e q w l k
 
-      write : enough (member heard.heard) ≡ true → is_reading r.status ≡ false → (b : Bool) → leb 999999 heard.best.sequence ≡ b → Receipt enough a r m (cond b (failing (with_status status.Idle heard) (used_up a.own)) (intended_if (store_at a) a heard))
+      write : enough (member heard.heard) ≡ true → is_reading r.status ≡ false → (b : Bool) → leb 999999 heard.best.timestamp.sequence ≡ b → Receipt enough a r m (cond b (failing (with_status status.Idle heard) (used_up a.own)) (intended_if (store_at a) a heard))
       write q w true l = write_ends e q w l
       write q w false l = intend q w l (store_at a) refl
 
       update_all : enough (member heard.heard) ≡ true → (b : Bool) → is_reading r.status ≡ b → Receipt enough a r m (cond b (as_reaction (reader_updates a.own a.page heard)) (writer_updates a heard))
       update_all q true w = read_updates e q w
-      update_all q false w = write q w (leb 999999 heard.best.sequence) refl
+      update_all q false w = write q w (leb 999999 heard.best.timestamp.sequence) refl
 
       enough_heard : (b : Bool) → enough (member heard.heard) ≡ b → Receipt enough a r m (cond b (cond (is_reading r.status) (as_reaction (reader_updates a.own a.page heard)) (writer_updates a heard)) (reacting heard nothing))
       enough_heard true q = update_all q (is_reading r.status) refl
@@ -94,9 +94,9 @@ pub data Recovery (a : Place) (r : Replica) : Comeback → Type 0 where
   refuses : (f : ReplicaRefusal) → Recovery a r (recovery.refusing r f)
   is_idle : is_down r.status ≡ true → leb 9999 a.page.incarnation ≡ false → store_at a ≡ Ok tt → eqb a.page.intended_sequence 0 ≡ true → Recovery a r (record { replica = idle; stores = Some (raised a.page); answer = Ok (ending Recovered true) })
   recovers : is_down r.status ≡ true → leb 9999 a.page.incarnation ≡ false → store_at a ≡ Ok tt → eqb a.page.intended_sequence 0 ≡ false → Recovery a r (record {
-    replica = opened status.Recovering 1 (record { sequence = a.page.intended_sequence; replica = a.own }) a.page.intended_code 0;
+    replica = opened status.Recovering 1 (intended a.own a.page) 0;
     stores = Some (raised a.page);
-    answer = Ok (updating (update a.own (ticket (raised a.page).incarnation 1) (record { sequence = a.page.intended_sequence; replica = a.own }) a.page.intended_code) true);
+    answer = Ok (updating (update a.own (ticket (raised a.page).incarnation 1) (intended a.own a.page)) true);
   })
 
 module _ (a : Place) (r : Replica) where
@@ -106,8 +106,8 @@ module _ (a : Place) (r : Replica) where
       both : Bool → Replica × Reaction
       both b =
           cond b (idle, ending Recovered true) (
-            opened status.Recovering 1 (record { sequence = a.page.intended_sequence; replica = a.own }) a.page.intended_code 0,
-            updating (update a.own (ticket (raised a.page).incarnation 1) (record { sequence = a.page.intended_sequence; replica = a.own }) a.page.intended_code) true,
+            opened status.Recovering 1 (intended a.own a.page) 0,
+            updating (update a.own (ticket (raised a.page).incarnation 1) (intended a.own a.page)) true,
           )
 
       go : (b : Bool) → eqb a.page.intended_sequence 0 ≡ b → Recovery a r (record { replica = (both b).0; stores = Some (raised a.page); answer = Ok (both b).1 })

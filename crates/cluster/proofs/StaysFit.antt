@@ -25,7 +25,7 @@ use Rattle.std.proofs.lemmas.Bool.{and_from, cases_lt}
 use Rattle.std.proofs.lemmas.List.{get_or_past}
 use Rattle.std.proofs.lemmas.List.Elements.{All-append, All-drop, All-get_or, All-push, All-set, All-take}
 use Rattle.storage.specs.Memories.{count_fits}
-use Rattle.storage.specs.Timestamps.{blank_timestamp}
+use Rattle.storage.specs.Timestamps.{blank_stamped}
 use Rattle.storage.specs.declared.page.Page.{Page}
 
 -- what holds of each element and of the default holds of what is read
@@ -57,7 +57,7 @@ module _ (u : Setup) (s : State) (fit : Fit u s) where
   page_fit : (i : ℕ) → i < u.replicas → page_fits u.replicas u.valid (s.page i) ≡ true
   page_fit i l = page_read u.replicas u.valid s.page 0 u.replicas i storage.1 (omega arith) (omega arith)
 
-  blank_fit : (i : ℕ) → i < u.replicas → written_fits u.replicas u.valid blank_timestamp 0 ≡ true
+  blank_fit : (i : ℕ) → i < u.replicas → written_fits u.replicas u.valid blank_stamped ≡ true
   blank_fit i l = blank_fits u.replicas u.valid (omega arith) fit.blank
 
   record_fit : (i : ℕ) → i < u.replicas → FitRecord u (record_at s i)

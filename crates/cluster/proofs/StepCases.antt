@@ -26,8 +26,8 @@ pub data Updating : Status → Type 0 where
 pub data Asks (p : Page) (r : Replica) (m : Message) : Step → Type 0 where
   ignores : Asks p r m Ignore
   reports : m.kind ≡ kind.Query → Asks p r m Report
-  acknowledges : m.kind ≡ kind.Update → later m.timestamp p.written ≡ false → Asks p r m Acknowledge
-  keeps : m.kind ≡ kind.Update → later m.timestamp p.written ≡ true → Asks p r m Keep
+  acknowledges : m.kind ≡ kind.Update → later m.content.timestamp p.written.timestamp ≡ false → Asks p r m Acknowledge
+  keeps : m.kind ≡ kind.Update → later m.content.timestamp p.written.timestamp ≡ true → Asks p r m Keep
   hears_report : Querying r.status → m.kind ≡ kind.Report → expected p r m ≡ true → Asks p r m HearReport
   hears_ack : Updating r.status → m.kind ≡ kind.Ack → expected p r m ≡ true → Asks p r m HearAck
 
@@ -39,9 +39,9 @@ module _ (p : Page) (r : Replica) (m : Message) where
   if_passed false h = ignores
 
   update : m.kind ≡ kind.Update → Asks p r m (on_update p m)
-  update k = go (later m.timestamp p.written) refl
+  update k = go (later m.content.timestamp p.written.timestamp) refl
     where
-      go : (b : Bool) → later m.timestamp p.written ≡ b → Asks p r m (cond b Keep Acknowledge)
+      go : (b : Bool) → later m.content.timestamp p.written.timestamp ≡ b → Asks p r m (cond b Keep Acknowledge)
       go true l = keeps k l
       go false l = acknowledges k l
 

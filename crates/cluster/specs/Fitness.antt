@@ -7,7 +7,7 @@ use Rattle.replica.specs.declared.record.Replica.{Replica}
 use Rattle.storage.specs.Memories.{count_fits}
 use Rattle.storage.specs.declared.entry.Entry.{Ghosts as EntryOf}
 use Rattle.storage.specs.declared.page.Page.{Page}
-use Rattle.storage.specs.declared.timestamp.Timestamp.{Timestamp}
+use Rattle.storage.specs.declared.stamped.Stamped.{Stamped}
 
 -- whether a code is of a kind of entry
 abbrev pub of_kind : {E : Type 0} → EntryOf E → ℕ → Bool
@@ -18,25 +18,26 @@ abbrev pub code_fits : (ℕ → Bool) → ℕ → ℕ → Bool
 code_fits valid sequence code = nat_le sequence 999999 && (valid code && (nat_lt 0 sequence || code == 0))
 
 -- a timestamp of a register of n replicas, with the code that was written at it; the blank one is of replica 0
-abbrev pub written_fits : ℕ → (ℕ → Bool) → Timestamp → ℕ → Bool
-written_fits n valid t code = nat_lt t.replica n && (code_fits valid t.sequence code && (nat_lt 0 t.sequence || t.replica == 0))
+abbrev pub written_fits : ℕ → (ℕ → Bool) → Stamped → Bool
+written_fits n valid w =
+    nat_lt w.timestamp.replica n && (code_fits valid w.timestamp.sequence w.code && (nat_lt 0 w.timestamp.sequence || w.timestamp.replica == 0))
 
 -- a page that a register of n replicas can have stored, by codes that are valid
 abbrev pub page_fits : ℕ → (ℕ → Bool) → Page → Bool
 page_fits n valid p =
     nat_le p.incarnation 9999
-    && (nat_lt p.written.replica n
-    && (code_fits valid p.written.sequence p.written_code
-    && ((nat_lt 0 p.written.sequence || p.written.replica == 0)
+    && (nat_lt p.written.timestamp.replica n
+    && (code_fits valid p.written.timestamp.sequence p.written.code
+    && ((nat_lt 0 p.written.timestamp.sequence || p.written.timestamp.replica == 0)
     && code_fits valid p.intended_sequence p.intended_code)))
 
 -- a record whose best and whose code to write may go to a page
 abbrev pub record_fits : ℕ → (ℕ → Bool) → Replica → Bool
-record_fits n valid r = written_fits n valid r.best r.best_code && valid r.write_code
+record_fits n valid r = written_fits n valid r.best && valid r.write_code
 
 -- a message that carries what may go to a page
 abbrev pub message_fits : ℕ → (ℕ → Bool) → Message → Bool
-message_fits n valid m = written_fits n valid m.timestamp m.code
+message_fits n valid m = written_fits n valid m.content
 
 -- the lowest of the m replicas from i on whose page is unfit
 abbrev pub lowest_unfit : ℕ → (ℕ → Bool) → (ℕ → Page) → ℕ → ℕ → Option ℕ

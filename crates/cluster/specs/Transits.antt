@@ -4,7 +4,7 @@ use Rattle.replica.specs.Messages.{query, ticket}
 use Rattle.replica.specs.declared.message.Message.{Message}
 use Rattle.replica.specs.declared.record.Replica.{Replica}
 use Rattle.replica.specs.declared.record.Status.TheVariants.{Down}
-use Rattle.storage.specs.Timestamps.{blank_timestamp}
+use Rattle.storage.specs.Timestamps.{blank_stamped}
 
 -- at most 96 are in transit
 abbrev pub room_in : List Message → Bool
@@ -16,7 +16,7 @@ with_sent ms m = cond (room_in ms) (ms ++ m ∷ []) ms
 
 -- the message to replica j
 abbrev pub addressed : Message → ℕ → Message
-addressed m j = record { kind = m.kind; sender = m.sender; receiver = j; ticket = m.ticket; timestamp = m.timestamp; code = m.code }
+addressed m j = record { kind = m.kind; sender = m.sender; receiver = j; ticket = m.ticket; content = m.content }
 
 -- the message to replicas 0 to n - 1, in that order
 abbrev pub sent_to_all : ℕ → List Message → Message → List Message
@@ -42,4 +42,4 @@ no_message = query 0 (ticket 0 0)
 
 -- what a number past the last replica's is read as; no rule depends on it
 abbrev pub blank_record : Replica
-blank_record = record { status = Down; round = 0; heard = record { held = [] }; best = blank_timestamp; best_code = 0; write_code = 0 }
+blank_record = record { status = Down; round = 0; heard = record { held = [] }; best = blank_stamped; write_code = 0 }

@@ -8,14 +8,14 @@ use Rattle.replica.specs.declared.record.Status.{Status}
 use Rattle.replica.specs.declared.record.Status.TheVariants as status
 use Rattle.replica.specs.declared.refusal.ReplicaRefusal.{ReplicaRefusal}
 use Rattle.replica.specs.declared.refusal.ReplicaRefusal.TheVariants.{Down, NotIdle, RoundsUsedUp, NothingToResend}
-use Rattle.storage.specs.Timestamps.{blank_timestamp}
+use Rattle.storage.specs.Timestamps.{blank_stamped}
 use Rattle.storage.specs.declared.page.Page.{Page}
 
 -- an idle replica of number i opens the next round, if two are left of 999,999: nobody is heard, best is blank
 abbrev pub begun_idle : Status → ℕ → Page → Replica → ℕ → Replica × Result Message ReplicaRefusal
 begun_idle s i p r c =
     cond (nat_lt 999997 r.round) (r, Err RoundsUsedUp)
-    (opened s (r.round + 1) blank_timestamp 0 c, Ok (query i (ticket p.incarnation (r.round + 1))))
+    (opened s (r.round + 1) blank_stamped c, Ok (query i (ticket p.incarnation (r.round + 1))))
 
 abbrev pub begun_by : Status → Status → ℕ → Page → Replica → ℕ → Replica × Result Message ReplicaRefusal
 begun_by status.Down s i p r c = (r, Err Down)
@@ -35,9 +35,9 @@ resent_by status.Down i p r = Err Down
 resent_by status.Idle i p r = Err NothingToResend
 resent_by status.QueryingToWrite i p r = Ok (query i (ticket p.incarnation r.round))
 resent_by status.QueryingToRead i p r = Ok (query i (ticket p.incarnation r.round))
-resent_by status.UpdatingWrite i p r = Ok (update i (ticket p.incarnation r.round) r.best r.best_code)
-resent_by status.UpdatingRead i p r = Ok (update i (ticket p.incarnation r.round) r.best r.best_code)
-resent_by status.Recovering i p r = Ok (update i (ticket p.incarnation r.round) r.best r.best_code)
+resent_by status.UpdatingWrite i p r = Ok (update i (ticket p.incarnation r.round) r.best)
+resent_by status.UpdatingRead i p r = Ok (update i (ticket p.incarnation r.round) r.best)
+resent_by status.Recovering i p r = Ok (update i (ticket p.incarnation r.round) r.best)
 
 -- the present round's message once more
 abbrev pub resent : ℕ → Page → Replica → Result Message ReplicaRefusal

@@ -21,7 +21,7 @@ use Rattle.replica.specs.declared.step.Step.TheVariants.{Ignore, Report, Acknowl
 use Rattle.storage.specs.ReplicaSets.{member}
 use Rattle.storage.specs.declared.fault.StorageFault.{StorageFault}
 use Rattle.storage.specs.declared.page.Page.{Page}
-use Rattle.storage.specs.declared.timestamp.Timestamp.{Timestamp}
+use Rattle.storage.specs.declared.stamped.Stamped.{Stamped}
 
 -- what comes of a message: a reaction, or a fault with which the event ends
 abbrev pub Received : Type 0
@@ -36,15 +36,15 @@ abbrev pub failing : Replica → ReplicaFault → Received
 failing r f = record { replica = r; stores = None; answer = Err f }
 
 -- the page with another newest entry; with another intended write
-abbrev pub keeping : Page → Timestamp → ℕ → Page
-keeping p t c = record { incarnation = p.incarnation; written = t; written_code = c; intended_sequence = p.intended_sequence; intended_code = p.intended_code }
+abbrev pub keeping : Page → Stamped → Page
+keeping p w = record { incarnation = p.incarnation; written = w; intended_sequence = p.intended_sequence; intended_code = p.intended_code }
 
 abbrev pub intending : Page → ℕ → ℕ → Page
-intending p s c = record { incarnation = p.incarnation; written = p.written; written_code = p.written_code; intended_sequence = s; intended_code = c }
+intending p s c = record { incarnation = p.incarnation; written = p.written; intended_sequence = s; intended_code = c }
 
 -- an update is stored, and only then acknowledged
 abbrev pub kept_if : Result (Unit {0}) StorageFault → Place → Replica → Message → Received
-kept_if (Ok u) a r m = record { replica = r; stores = Some (keeping a.page m.timestamp m.code); answer = Ok (replying (ack m) true) }
+kept_if (Ok u) a r m = record { replica = r; stores = Some (keeping a.page m.content); answer = Ok (replying (ack m) true) }
 kept_if (Err f) a r m = failing r (record { cause = Storage f; task = Some KeepingUpdate })
 
 -- nothing is stored, and these are the record and the reaction
@@ -54,27 +54,27 @@ as_reaction x = reacting x.0 x.1
 -- a reader of number i updates all with the best that was reported
 abbrev pub reader_updates : ℕ → Page → Replica → Replica × Reaction
 reader_updates i p r = (
-  opened status.UpdatingRead (next_round r) r.best r.best_code r.write_code,
-  updating (update i (ticket p.incarnation (next_round r)) r.best r.best_code) false,
+  opened status.UpdatingRead (next_round r) r.best r.write_code,
+  updating (update i (ticket p.incarnation (next_round r)) r.best) false,
 )
 
--- the writer's timestamp: the next sequence, and its own number
-abbrev pub chosen : Place → Replica → Timestamp
-chosen a r = record { sequence = r.best.sequence + 1; replica = a.own }
+-- what the writer writes: its code, at the next sequence and its own number
+abbrev pub chosen : Place → Replica → Stamped
+chosen a r = record { timestamp = record { sequence = r.best.timestamp.sequence + 1; replica = a.own }; code = r.write_code }
 
 -- a writer stores its intention and updates all with it; if that is refused its operation ends
 abbrev pub intended_if : Result (Unit {0}) StorageFault → Place → Replica → Received
 intended_if (Ok u) a r = record {
-  replica = opened status.UpdatingWrite (next_round r) (chosen a r) r.write_code r.write_code;
-  stores = Some (intending a.page (r.best.sequence + 1) r.write_code);
-  answer = Ok (updating (update a.own (ticket a.page.incarnation (next_round r)) (chosen a r) r.write_code) true);
+  replica = opened status.UpdatingWrite (next_round r) (chosen a r) r.write_code;
+  stores = Some (intending a.page (r.best.timestamp.sequence + 1) r.write_code);
+  answer = Ok (updating (update a.own (ticket a.page.incarnation (next_round r)) (chosen a r)) true);
 }
 intended_if (Err f) a r = failing (with_status status.Idle r) (record { cause = Storage f; task = Some NotingIntention })
 
 -- a writer that has heard of the last sequence has no timestamp to write with
 abbrev pub writer_updates : Place → Replica → Received
 writer_updates a r =
-    cond (nat_le 999999 r.best.sequence) (failing (with_status status.Idle r) (used_up a.own)) (intended_if (store_at a) a r)
+    cond (nat_le 999999 r.best.timestamp.sequence) (failing (with_status status.Idle r) (used_up a.own)) (intended_if (store_at a) a r)
 
 abbrev pub is_reading : Status → Bool
 is_reading status.Down = false
@@ -96,8 +96,8 @@ reported status.Down r = Recovered
 reported status.Idle r = Recovered
 reported status.QueryingToWrite r = Recovered
 reported status.QueryingToRead r = Recovered
-reported status.UpdatingWrite r = Written r.best
-reported status.UpdatingRead r = Read r.best r.best_code
+reported status.UpdatingWrite r = Written r.best.timestamp
+reported status.UpdatingRead r = Read r.best
 reported status.Recovering r = Recovered
 
 -- an acknowledgement was heard: once enough are, the operation is finished and the replica idle
@@ -107,7 +107,7 @@ acknowledged enough r = cond (enough (member r.heard)) (with_status status.Idle 
 -- each action's effect, on the record as the step left it
 abbrev pub followed : Step → ((ℕ → Bool) → Bool) → Place → Replica → Message → Received
 followed Ignore enough a r m = reacting r nothing
-followed Report enough a r m = reacting r (replying (report m a.page.written a.page.written_code) false)
+followed Report enough a r m = reacting r (replying (report m a.page.written) false)
 followed Acknowledge enough a r m = reacting r (replying (ack m) false)
 followed Keep enough a r m = kept_if (store_at a) a r m
 followed HearReport enough a r m = queried enough a r

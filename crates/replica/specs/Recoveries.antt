@@ -16,6 +16,7 @@ use Rattle.replica.specs.declared.refusal.ReplicaRefusal.TheVariants as refusal
 use Rattle.storage.specs.Storages.{answered}
 use Rattle.storage.specs.declared.fault.StorageFault.{StorageFault}
 use Rattle.storage.specs.declared.page.Page.{Page}
+use Rattle.storage.specs.declared.stamped.Stamped.{Stamped}
 
 -- what comes of a recovery: a reaction, or a refusal
 abbrev pub Comeback : Type 0
@@ -23,14 +24,18 @@ Comeback = Effect (Result Reaction ReplicaRefusal)
 
 -- the page of the next incarnation
 abbrev pub raised : Page → Page
-raised p = record { incarnation = p.incarnation + 1; written = p.written; written_code = p.written_code; intended_sequence = p.intended_sequence; intended_code = p.intended_code }
+raised p = record { incarnation = p.incarnation + 1; written = p.written; intended_sequence = p.intended_sequence; intended_code = p.intended_code }
+
+-- the write that replica i, with page p, intends
+abbrev pub intended : ℕ → Page → Stamped
+intended i p = record { timestamp = record { sequence = p.intended_sequence; replica = i }; code = p.intended_code }
 
 -- replica i is up with page p: with no intended write it is idle; else it updates all with that write, in round 1
 abbrev pub finishing : ℕ → Page → Replica × Reaction
 finishing i p =
     cond (p.intended_sequence == 0) (idle, ending Recovered true) (
-      opened Recovering 1 (record { sequence = p.intended_sequence; replica = i }) p.intended_code 0,
-      updating (update i (ticket p.incarnation 1) (record { sequence = p.intended_sequence; replica = i }) p.intended_code) true,
+      opened Recovering 1 (intended i p) 0,
+      updating (update i (ticket p.incarnation 1) (intended i p)) true,
     )
 
 -- nothing has changed

@@ -20,7 +20,7 @@ expected p r m = m.ticket.incarnation == p.incarnation && (m.ticket.round == r.r
 
 -- an update is kept if it is later than what the page holds as written
 abbrev pub on_update : Page → Message → Step
-on_update p m = cond (later m.timestamp p.written) Keep Acknowledge
+on_update p m = cond (later m.content.timestamp p.written.timestamp) Keep Acknowledge
 
 -- a replica that is up and not recovering answers queries and updates of all
 abbrev pub on_request : MessageKind → Page → Message → Step

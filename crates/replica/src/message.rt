@@ -2,7 +2,7 @@
 ghost use Rattle.std.specs.Prelude.{◌≡◌};
 ghost use Rattle.replica.specs.Messages.{ack, answered_with};
 
-use storage::Timestamp;
+use storage::Stamped;
 
 #[derive(Clone, Copy, PartialEq, Eq, Debug)]
 pub enum MessageKind {
@@ -24,30 +24,28 @@ pub struct Ticket {
     pub round: u32,
 }
 
-// Query and Ack have the blank timestamp and code 0. The kind stands beside the fields, and no variant holds
-// them: a message of any fields can reach a replica, and a narrower type would refuse some.
+// Query and Ack carry the blank. The kind stands beside what is carried, and no variant holds it: a message
+// of any fields can reach a replica, and a narrower type would refuse some.
 #[derive(Clone, Copy, PartialEq, Eq, Debug)]
 pub struct Message {
     pub kind: MessageKind,
     pub sender: u32,
     pub receiver: u32,
     pub ticket: Ticket,
-    pub timestamp: Timestamp,
-    pub code: u64,
+    pub content: Stamped,
 }
 
 impl Message {
     // A response to this message: back to its sender, under its ticket.
-    pub(crate) fn answer(&self, kind: MessageKind, timestamp: Timestamp, code: u64) -> Message
-        ensures { result ≡ answered_with self.now kind timestamp code }
+    pub(crate) fn answer(&self, kind: MessageKind, content: Stamped) -> Message
+        ensures { result ≡ answered_with self.now kind content }
     {
         Message {
             kind,
             sender: self.receiver,
             receiver: self.sender,
             ticket: self.ticket,
-            timestamp,
-            code,
+            content,
         }
     }
 
@@ -55,6 +53,6 @@ impl Message {
     pub(crate) fn ack(&self) -> Message
         ensures { result ≡ ack self.now }
     {
-        self.answer(MessageKind::Ack, Timestamp::BLANK, 0)
+        self.answer(MessageKind::Ack, Stamped::BLANK)
     }
 }

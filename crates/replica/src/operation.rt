@@ -9,7 +9,7 @@ use crate::message::{Message, MessageKind, Ticket};
 use crate::record::{Replica, Status};
 use crate::refusal::ReplicaRefusal;
 use crate::site::Site;
-use storage::Timestamp;
+use storage::Stamped;
 
 // A register uses the rounds 0 to 999,999.
 const LAST_ROUND: u32 = 999_999;
@@ -19,7 +19,7 @@ impl Replica {
     pub fn new() -> Replica
         ensures { result ≡ down }
     {
-        Replica::opening(Status::Down, 0, Timestamp::BLANK, 0, 0)
+        Replica::opening(Status::Down, 0, Stamped::BLANK, 0)
     }
 
     // Begins a write of an entry's code. The Query goes to all.
@@ -43,7 +43,7 @@ impl Replica {
             Status::Down => Err(ReplicaRefusal::Down),
             Status::Idle if self.round > LAST_ROUND - 2 => Err(ReplicaRefusal::RoundsUsedUp),
             Status::Idle => {
-                *self = Replica::opening(status, self.round + 1, Timestamp::BLANK, 0, code);
+                *self = Replica::opening(status, self.round + 1, Stamped::BLANK, code);
                 Ok(self.query(site))
             }
             _ => Err(ReplicaRefusal::NotIdle),
@@ -79,19 +79,19 @@ impl Replica {
     fn query(&self, site: &Site) -> Message
         ensures { result ≡ query site.now.own (ticket site.now.page.incarnation self.now.round) }
     {
-        self.to_all(MessageKind::Query, site, Timestamp::BLANK, 0)
+        self.to_all(MessageKind::Query, site, Stamped::BLANK)
     }
 
     // The Update of the present round.
     pub(crate) fn update(&self, site: &Site) -> Message
-        ensures { result ≡ update site.now.own (ticket site.now.page.incarnation self.now.round) self.now.best self.now.best_code }
+        ensures { result ≡ update site.now.own (ticket site.now.page.incarnation self.now.round) self.now.best }
     {
-        self.to_all(MessageKind::Update, site, self.best, self.best_code)
+        self.to_all(MessageKind::Update, site, self.best)
     }
 
     // A message of the present round, whose receiver is filled in for each.
-    fn to_all(&self, kind: MessageKind, site: &Site, timestamp: Timestamp, code: u64) -> Message
-        ensures { result ≡ record { kind = kind; sender = site.now.own; receiver = 0; ticket = ticket site.now.page.incarnation self.now.round; timestamp = timestamp; code = code } }
+    fn to_all(&self, kind: MessageKind, site: &Site, content: Stamped) -> Message
+        ensures { result ≡ record { kind = kind; sender = site.now.own; receiver = 0; ticket = ticket site.now.page.incarnation self.now.round; content = content } }
     {
         Message {
             kind,
@@ -102,8 +102,7 @@ impl Replica {
                 incarnation: site.page.incarnation,
                 round: self.round,
             },
-            timestamp,
-            code,
+            content,
         }
     }
 }

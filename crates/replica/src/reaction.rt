@@ -3,7 +3,7 @@ ghost use Rattle.std.specs.Prelude.{◌≡◌};
 ghost use Rattle.replica.specs.Reactions.{replying, ending, updating};
 
 use crate::message::Message;
-use storage::Timestamp;
+use storage::{Stamped, Timestamp};
 
 #[derive(Clone, Copy, PartialEq, Eq, Debug)]
 pub enum Sending {
@@ -18,8 +18,8 @@ pub enum Sending {
 pub enum Outcome {
     // the write is finished: when it was written
     Written(Timestamp),
-    // the read is finished: when what it read was written, and its code
-    Read(Timestamp, u64),
+    // the read is finished: what it read
+    Read(Stamped),
     // the replica is idle again after a crash
     Recovered,
 }

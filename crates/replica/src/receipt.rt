@@ -9,7 +9,7 @@ use crate::reaction::{Outcome, Reaction};
 use crate::record::{Replica, Status};
 use crate::site::Site;
 use crate::step::Step;
-use storage::{Page, Quorum, Storage, Timestamp};
+use storage::{Page, Quorum, Stamped, Storage, Timestamp};
 
 impl Replica {
     // A message reaches this replica, which is its receiver. A fault ends the event: nothing is
@@ -45,8 +45,7 @@ impl Replica {
         match step {
             Step::Ignore => Ok(Reaction::NOTHING),
             Step::Report => {
-                let page = &site.page;
-                let report = message.answer(MessageKind::Report, page.written, page.written_code);
+                let report = message.answer(MessageKind::Report, site.page.written);
                 Ok(Reaction::reply(report, false))
             }
             Step::Acknowledge => Ok(Reaction::reply(message.ack(), false)),
@@ -66,8 +65,7 @@ impl Replica {
         ensures { Performs S.Storage site.now.own (kept_if (store_at (place S.Storage storage.old site.now)) (place S.Storage storage.old site.now) self.old message.now) storage.old storage.new self.new result }
     {
         let new = Page {
-            written: message.timestamp,
-            written_code: message.code,
+            written: message.content,
             ..site.page
         };
         storage
@@ -102,7 +100,6 @@ impl Replica {
             Status::UpdatingRead,
             self.round.saturating_add(1),
             self.best,
-            self.best_code,
             self.write_code,
         );
         Reaction::update(self.update(site), false)
@@ -117,19 +114,19 @@ impl Replica {
         ensures { Performs S.Storage site.now.own (writer_updates (place S.Storage storage.old site.now) self.old) storage.old storage.new self.new result }
     {
         self.status = Status::Idle;
-        if self.best.sequence >= Timestamp::LAST_SEQUENCE {
+        if self.best.timestamp.sequence >= Timestamp::LAST_SEQUENCE {
             return Err(ReplicaFault {
                 cause: Cause::SequenceUsedUp { replica: site.own },
                 task: Some(Task::NotingIntention),
             });
         }
-        let chosen = Timestamp {
-            sequence: self.best.sequence + 1,
+        let timestamp = Timestamp {
+            sequence: self.best.timestamp.sequence + 1,
             replica: site.own,
         };
         let code = self.write_code;
         let new = Page {
-            intended_sequence: chosen.sequence,
+            intended_sequence: timestamp.sequence,
             intended_code: code,
             ..site.page
         };
@@ -137,7 +134,8 @@ impl Replica {
             .store(site.own as usize, new)
             .map_err(|fault| ReplicaFault::at(Task::NotingIntention, fault))?;
         let round = self.round.saturating_add(1);
-        *self = Replica::opening(Status::UpdatingWrite, round, chosen, code, code);
+        let chosen = Stamped { timestamp, code };
+        *self = Replica::opening(Status::UpdatingWrite, round, chosen, code);
         Ok(Reaction::update(self.update(site), true))
     }
 
@@ -149,8 +147,8 @@ impl Replica {
             return Reaction::NOTHING;
         }
         let outcome = match self.status {
-            Status::UpdatingWrite => Outcome::Written(self.best),
-            Status::UpdatingRead => Outcome::Read(self.best, self.best_code),
+            Status::UpdatingWrite => Outcome::Written(self.best.timestamp),
+            Status::UpdatingRead => Outcome::Read(self.best),
             _ => Outcome::Recovered,
         };
         self.status = Status::Idle;

@@ -2,7 +2,7 @@
 ghost use Rattle.std.specs.Prelude.{◌≡◌};
 ghost use Rattle.replica.specs.Records.{opened};
 
-use storage::{ReplicaSet, Timestamp};
+use storage::{ReplicaSet, Stamped};
 
 #[derive(Clone, Copy, PartialEq, Eq, Debug)]
 pub enum Status {
@@ -22,9 +22,8 @@ pub struct Replica {
     pub round: u32,
     // who has responded in this round
     pub heard: ReplicaSet,
-    // while querying the greatest timestamp reported, with its code; while updating what is updated
-    pub best: Timestamp,
-    pub best_code: u64,
+    // while querying what was reported with the greatest timestamp; while updating what is updated
+    pub best: Stamped,
     // what is to be written
     pub write_code: u64,
 }
@@ -34,18 +33,16 @@ impl Replica {
     pub(crate) fn opening(
         status: Status,
         round: u32,
-        best: Timestamp,
-        best_code: u64,
+        best: Stamped,
         write_code: u64,
     ) -> Replica
-        ensures { result ≡ opened status round best best_code write_code }
+        ensures { result ≡ opened status round best write_code }
     {
         Replica {
             status,
             round,
             heard: ReplicaSet::empty(),
             best,
-            best_code,
             write_code,
         }
     }

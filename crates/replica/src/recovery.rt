@@ -8,7 +8,7 @@ use crate::reaction::{Outcome, Reaction};
 use crate::record::{Replica, Status};
 use crate::refusal::ReplicaRefusal;
 use crate::site::Site;
-use storage::{Page, Storage, Timestamp};
+use storage::{Page, Stamped, Storage, Timestamp};
 
 impl Replica {
     // A register uses the incarnations 0 to 9,999.
@@ -44,14 +44,15 @@ impl Replica {
         ensures { finishing site.now.own site.now.page ≡ (self.new, result) }
     {
         if site.page.intended_sequence == 0 {
-            *self = Replica::opening(Status::Idle, 0, Timestamp::BLANK, 0, 0);
+            *self = Replica::opening(Status::Idle, 0, Stamped::BLANK, 0);
             return Reaction::end(Outcome::Recovered, true);
         }
-        let intended = Timestamp {
+        let timestamp = Timestamp {
             sequence: site.page.intended_sequence,
             replica: site.own,
         };
-        *self = Replica::opening(Status::Recovering, 1, intended, site.page.intended_code, 0);
+        let code = site.page.intended_code;
+        *self = Replica::opening(Status::Recovering, 1, Stamped { timestamp, code }, 0);
         Reaction::update(self.update(site), true)
     }
 }

@@ -36,7 +36,7 @@ impl Replica {
             (Status::Recovering, MessageKind::Query | MessageKind::Update)
                 if message.sender != message.receiver => { Step::Ignore }
             (_, MessageKind::Query) => Step::Report,
-            (_, MessageKind::Update) if message.timestamp.is_later(page.written) => Step::Keep,
+            (_, MessageKind::Update) if message.content.timestamp.is_later(page.written.timestamp) => Step::Keep,
             (_, MessageKind::Update) => Step::Acknowledge,
             (Status::QueryingToWrite | Status::QueryingToRead, MessageKind::Report)
                 if self.expects(page, message) => {
@@ -66,9 +66,8 @@ impl Replica {
         ensures { self.new ≡ hearing_report self.old message.now }
     {
         self.heard.insert(message.sender as usize);
-        if message.timestamp.is_later(self.best) {
-            self.best = message.timestamp;
-            self.best_code = message.code;
+        if message.content.timestamp.is_later(self.best.timestamp) {
+            self.best = message.content;
         }
     }
 }

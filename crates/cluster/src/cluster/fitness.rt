@@ -5,7 +5,7 @@ ghost use Rattle.cluster.specs.Fitness.{code_fits, fitness, lowest_unfit, of_kin
 use crate::cluster::Cluster;
 use crate::refusal::Refusal;
 use replica::Replica;
-use storage::{Entry, Page, Quorum, Storage, Timestamp};
+use storage::{Entry, Page, Quorum, Stamped, Storage, Timestamp};
 
 impl<S: Storage, Q: Quorum, E: Entry> Cluster<S, Q, E> {
     // Refused with 5 or 6 where storage and quorum are not fit.
@@ -35,11 +35,11 @@ fn unfit_replica<S: Storage, E: Entry>(storage: &S, n: usize) -> Option<usize>
 fn page_fits<E: Entry>(n: usize, page: &Page) -> bool
     ensures { result ≡ page_fits n (of_kind E.Entry) page.now }
 {
-    let written = page.written;
+    let Stamped { timestamp, code } = page.written;
     page.incarnation <= Replica::LAST_INCARNATION
-        && (written.replica as usize) < n
-        && code_fits::<E>(written.sequence, page.written_code)
-        && (written.sequence > 0 || written.replica == 0)
+        && (timestamp.replica as usize) < n
+        && code_fits::<E>(timestamp.sequence, code)
+        && (timestamp.sequence > 0 || timestamp.replica == 0)
         && code_fits::<E>(page.intended_sequence, page.intended_code)
 }
 
