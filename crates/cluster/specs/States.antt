@@ -30,7 +30,7 @@ pub record Setup : Type 0 where
 -- the meanings of a storage, a quorum rule and a kind of entry are those that their bounds name
 module _ {S Q E : Type 0} where
   abbrev pub state_of : StorageOf S → Cluster S Q E → State
-  state_of m c = record { page = m.page c.storage; left = m.left c.storage; records = c.table.replicas; transit = vec_items c.table.transit }
+  state_of m c = record { page = m.page c.storage; left = m.left c.storage; records = c.records; transit = vec_items c.transit.messages }
 
   abbrev pub setup_of : StorageOf S → QuorumOf Q → EntryOf E → Cluster S Q E → Setup
   setup_of m q k c = record { replicas = m.replicas c.storage; size = q.size c.quorum; enough = q.enough c.quorum; layer = m.layer c.storage; valid = of_kind k }

@@ -5,7 +5,7 @@ pub mod answer;
 pub mod cluster;
 pub mod event;
 pub mod refusal;
-pub mod table;
+pub mod transit;
 
 pub use answer::{Answer, ClusterFault, Failure};
 pub use cluster::Cluster;

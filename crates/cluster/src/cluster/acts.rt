@@ -73,14 +73,14 @@ impl<S: Storage, Q: Quorum, E: Entry> Cluster<S, Q, E> {
         match sending {
             None => (0, 0),
             Some(Sending::One(message)) => {
-                if self.table.send(message) {
+                if self.transit.send(message) {
                     (1, 0)
                 } else {
                     (0, 1)
                 }
             }
             Some(Sending::All(message)) => {
-                let sent = self.table.send_all(n, &message);
+                let sent = self.transit.send_all(n, &message);
                 (sent, n as usize - sent)
             }
         }
@@ -98,8 +98,14 @@ impl<S: Storage, Q: Quorum, E: Entry> Cluster<S, Q, E> {
     fn broadcast(&mut self, n: u32, message: Message) -> Answer
         ensures { Does S.Storage Q.Quorum E.Entry (λ _ s. broadcasted n s message) self.old self.new result }
     {
-        let (sent, dropped) = self.dispatch(n, Some(Sending::All(message)));
-        Answer::of(None, sent, dropped, false)
+        self.accept(
+            n,
+            Reaction {
+                sending: Some(Sending::All(message)),
+                outcome: None,
+                stored: false,
+            },
+        )
     }
 
     // A replica begins a write.
@@ -111,7 +117,7 @@ impl<S: Storage, Q: Quorum, E: Entry> Cluster<S, Q, E> {
         if E::decode(code).is_none() {
             return Err(Refusal::NotOfKind);
         }
-        let query = self.table.lend(i).write(&site, code)?;
+        let query = self.records[i].write(&site, code)?;
         Ok(self.broadcast(self.replicas(), query))
     }
 
@@ -121,7 +127,7 @@ impl<S: Storage, Q: Quorum, E: Entry> Cluster<S, Q, E> {
         ensures { Does S.Storage Q.Quorum E.Entry (λ u s. began_read u s i) self.old self.new result }
     {
         let site = self.site(i)?;
-        let query = self.table.lend(i).read(&site)?;
+        let query = self.records[i].read(&site)?;
         Ok(self.broadcast(self.replicas(), query))
     }
 
@@ -131,7 +137,7 @@ impl<S: Storage, Q: Quorum, E: Entry> Cluster<S, Q, E> {
         ensures { Does S.Storage Q.Quorum E.Entry (λ u s. resent_by u s i) self.old self.new result }
     {
         let site = self.site(i)?;
-        let message = self.table.record(i).resend(&site)?;
+        let message = self.records[i].resend(&site)?;
         Ok(self.broadcast(self.replicas(), message))
     }
 
@@ -141,7 +147,7 @@ impl<S: Storage, Q: Quorum, E: Entry> Cluster<S, Q, E> {
         ensures { Does S.Storage Q.Quorum E.Entry (λ u s. crashed_at u s i) self.old self.new result }
     {
         let _ = self.site(i)?;
-        self.table.lend(i).crash()?;
+        self.records[i].crash()?;
         Ok(Answer::QUIET)
     }
 
@@ -151,7 +157,7 @@ impl<S: Storage, Q: Quorum, E: Entry> Cluster<S, Q, E> {
         ensures { Does S.Storage Q.Quorum E.Entry (λ u s. recovered_at u s i) self.old self.new result }
     {
         let site = self.site(i)?;
-        let reaction = self.table.lend(i).recover(&mut self.storage, site.own)?;
+        let reaction = self.records[i].recover(&mut self.storage, site.own)?;
         Ok(self.accept(self.replicas(), reaction))
     }
 
@@ -159,10 +165,7 @@ impl<S: Storage, Q: Quorum, E: Entry> Cluster<S, Q, E> {
     fn lose(&mut self, place: usize) -> Result<Answer, Refusal>
         ensures { Does S.Storage Q.Quorum E.Entry (λ _ s. lost s place) self.old self.new result }
     {
-        if place >= self.table.count() {
-            return Err(Refusal::NoMessage);
-        }
-        let _ = self.table.remove(place);
+        let _ = self.transit.take(place).ok_or(Refusal::NoMessage)?;
         Ok(Answer::QUIET)
     }
 
@@ -171,10 +174,7 @@ impl<S: Storage, Q: Quorum, E: Entry> Cluster<S, Q, E> {
         requires { S.replicas self.old.storage ≤ 15 }
         ensures { Does S.Storage Q.Quorum E.Entry (λ u s. delivered event u s place) self.old self.new result }
     {
-        if place >= self.table.count() {
-            return Err(Refusal::NoMessage);
-        }
-        let message = self.table.remove(place);
+        let message = self.transit.take(place).ok_or(Refusal::NoMessage)?;
         Ok(
             self.receive(&message)
                 .unwrap_or_else(|fault| Answer::failed(fault.replica, event)),
@@ -190,10 +190,7 @@ impl<S: Storage, Q: Quorum, E: Entry> Cluster<S, Q, E> {
         if receiver >= self.storage.replicas() {
             return Ok(Answer::QUIET);
         }
-        let reaction = self
-            .table
-            .lend(receiver)
-            .receive(&mut self.storage, &self.quorum, message)?;
+        let reaction = self.records[receiver].receive(&mut self.storage, &self.quorum, message)?;
         Ok(self.accept(self.replicas(), reaction))
     }
 }

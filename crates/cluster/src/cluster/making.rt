@@ -5,7 +5,8 @@ ghost use Rattle.cluster.specs.Laws.{Fit};
 ghost use Rattle.cluster.specs.States.{begins, setup_of, state_of};
 
 use crate::cluster::Cluster;
-use crate::table::Table;
+use crate::transit::Transit;
+use replica::Replica;
 use std::alloc::Global;
 use storage::{Entry, Quorum, Storage};
 
@@ -23,12 +24,13 @@ impl<S: Storage, Q: Quorum, E: Entry> Cluster<S, Q, E> {
         ensures cases { MatchResult result (λ c. (c.storage ≡ storage) × (c.quorum ≡ quorum) × (c.blank ≡ E.blank) × (state_of S.Storage c ≡ begins (S.page storage) (S.left storage))) (λ e. (e.storage ≡ storage) × (e.quorum ≡ quorum)) }
         ensures fit { IfOk result (λ c. (fitness (S.replicas storage) (Q.size quorum) (of_kind E.Entry) (S.page storage) ≡ Ok tt → Fit (setup_of S.Storage Q.Quorum E.Entry c) (state_of S.Storage c))) }
     {
-        match Table::new(heap) {
-            Ok(table) => Ok(Cluster {
+        match Transit::new(heap) {
+            Ok(transit) => Ok(Cluster {
                 storage,
                 quorum,
                 blank: E::blank(),
-                table,
+                records: [Replica::new(); 15],
+                transit,
             }),
             Err(_) => Err(NoMemory { storage, quorum }),
         }
@@ -44,7 +46,8 @@ impl<S: Storage, Q: Quorum, E: Entry> Cluster<S, Q, E> {
             storage,
             quorum: _,
             blank: _,
-            table: _,
+            records: _,
+            transit: _,
         } = self;
         storage
     }

@@ -14,7 +14,7 @@ impl<S: Storage, Q: Quorum, E: Entry> Cluster<S, Q, E> {
         ensures { result ≡ counted (setup_of S.Storage Q.Quorum E.Entry self.now) (state_of S.Storage self.now) }
     {
         self.check_fitness()?;
-        Ok(self.table.count())
+        Ok(self.transit.count())
     }
 
     // The message at a place.
@@ -22,10 +22,7 @@ impl<S: Storage, Q: Quorum, E: Entry> Cluster<S, Q, E> {
         ensures { result ≡ message_at (setup_of S.Storage Q.Quorum E.Entry self.now) (state_of S.Storage self.now) place }
     {
         self.check_fitness()?;
-        if place >= self.table.count() {
-            return Err(Refusal::NoMessage);
-        }
-        Ok(self.table.message(place))
+        self.transit.message(place).ok_or(Refusal::NoMessage)
     }
 
     // The status of a replica.
@@ -36,7 +33,7 @@ impl<S: Storage, Q: Quorum, E: Entry> Cluster<S, Q, E> {
         if i >= self.storage.replicas() {
             return Err(Refusal::NoSuchReplica);
         }
-        Ok(self.table.record(i).status)
+        Ok(self.records[i].status)
     }
 
     // The newest message in transit to a replica, or none.
@@ -47,6 +44,6 @@ impl<S: Storage, Q: Quorum, E: Entry> Cluster<S, Q, E> {
         if i >= self.storage.replicas() {
             return Err(Refusal::NoSuchReplica);
         }
-        Ok(self.table.newest_to(i))
+        Ok(self.transit.newest_to(i))
     }
 }
