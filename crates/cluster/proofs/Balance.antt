@@ -7,7 +7,7 @@ use Rattle.cluster.proofs.ReplicaCases as replica
 use Rattle.cluster.proofs.ReplicaCases.{Receipt, Recovery}
 use Rattle.cluster.proofs.Sending.{all_more}
 use Rattle.cluster.specs.Acts.{accepted, acted, broadcasted, dispatched}
-use Rattle.cluster.specs.Laws.{Balanced, takes, total}
+use Rattle.cluster.specs.Laws.{Balanced, taken_out, takes, total}
 use Rattle.cluster.specs.States.{Setup, State, place_at, with_effect}
 use Rattle.cluster.specs.Transits.{room_in}
 use Rattle.cluster.specs.declared.answer.Answer.{Answer}
@@ -17,6 +17,7 @@ use Rattle.replica.specs.Reactions.{updating}
 use Rattle.replica.specs.Receipts.{Received}
 use Rattle.replica.specs.Recoveries.{Comeback}
 use Rattle.replica.specs.declared.message.Message.{Message}
+use Rattle.replica.specs.declared.reaction.Outcome.{Outcome}
 use Rattle.replica.specs.declared.reaction.Reaction.{Reaction}
 use Rattle.replica.specs.declared.reaction.Sending.{Sending}
 use Rattle.replica.specs.declared.reaction.Sending.TheVariants.{One, All}
@@ -107,11 +108,15 @@ dispatch_left n s None = refl
 dispatch_left n s (Some (One m)) = refl
 dispatch_left n s (Some (All m)) = refl
 
+-- an event that was not refused takes out what it takes
+reported-takes : (e : Event) (o : Option Outcome) → taken_out e (Ok o) ≡ takes e
+reported-takes e o = refl
+
 module _ (u : Setup) (s : State) where
   -- a reaction is accepted in a state t from which the message is gone and in which the store is made
   reacts : (e : Event) (t : State) (a : Reaction) → length t.transit + takes e ≡ length s.transit → total t.left u.replicas + cond a.stored 1 0 ≡ total s.left u.replicas → Balanced u s (accepted u.replicas t a).0 e (accepted u.replicas t a).1
   reacts e t a p q = record {
-    transit = let sent = dispatch_length u.replicas t a.sending in omega arith;
+    transit = let sent = dispatch_length u.replicas t a.sending in let taken = reported-takes e a.outcome in omega arith;
     stores = rw (dispatch_left u.replicas t a.sending) q;
   }
 

@@ -11,8 +11,9 @@ use crate::refusal::Refusal;
 use replica::{Message, Reaction, Sending, Site};
 use storage::{Entry, Quorum, Storage};
 
-// A storage that is unfit may have any number of replicas, so no invariant of a cluster bounds it: what
-// follows the check of fitness requires at most 15.
+// A storage that is unfit may have any number of replicas, so no invariant of a cluster bounds it, and a struct
+// that borrowed the cluster could hold no ghost field beside that borrow: what follows the check of fitness
+// requires at most 15.
 impl<S: Storage, Q: Quorum, E: Entry> Cluster<S, Q, E> {
     // One event. A refused one changes nothing. Transit grows by what was sent less what was taken out,
     // the stores left fall by the stores made, and a fit cluster stays fit.
@@ -181,7 +182,8 @@ impl<S: Storage, Q: Quorum, E: Entry> Cluster<S, Q, E> {
         )
     }
 
-    // A message reaches its receiver; one to no replica is ignored. The fault is made of the replica's by `?`.
+    // A message reaches its receiver; one to no replica is ignored. The fault is made of the replica's by `?`, at
+    // place 0: the caller knows the place.
     fn receive(&mut self, message: &Message) -> Result<Answer, ClusterFault>
         requires { S.replicas self.old.storage ≤ 15 }
         ensures { Does S.Storage Q.Quorum E.Entry (λ u s. received_at u s message.now) self.old self.new result }

@@ -23,7 +23,8 @@ impl<S: Storage, Q: Quorum, E: Entry> Cluster<S, Q, E> {
         if answers.len() < events.len() {
             return Err(Refusal::ShortAnswers);
         }
-        // The index is the event's place, which a fault names, and no count kept beside the items.
+        // By index, which is the event's place: of answers lent one by one beside the events a proof would know
+        // no more than how many they are.
         for (k, event) in events.iter().enumerate() {
             answers[k] = self.act_at(event, k);
         }
