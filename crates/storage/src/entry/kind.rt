@@ -23,7 +23,7 @@ impl TryFrom<u64> for Kind {
 
     fn try_from(number: u64) -> Result<Kind, NoSuchKind> {
         match number {
-            // The numbers of Bid::KIND and Span::KIND: a pattern names no u8 where a u64 is matched.
+            // The numbers of Bid::KIND and Span::KIND: the constant of a trait is no pattern.
             1 => Ok(Kind::Bid),
             2 => Ok(Kind::Span),
             _ => Err(NoSuchKind(number)),
