@@ -19,13 +19,14 @@ pub struct StorageFault {
 }
 
 impl StorageFault {
+    // A method and no conversion: it is the number that users know, as every refusal has one.
     pub fn number(self) -> u8
         ensures { result ≡ fault_number self }
     {
         self.reason as u8
     }
 
-    // The storage that was called refuses a replica.
+    // A fault of the storage that was called, for this replica.
     pub fn new(reason: Reason, replica: usize) -> StorageFault
         ensures { result ≡ refused reason replica }
     {

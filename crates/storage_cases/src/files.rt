@@ -1,26 +1,21 @@
 // The lot transfer file: what is refused and in which order, and pages through a file and back.
+use crate::storages::fault_parts;
 use std::test::Fail;
 use storage::file::opening::open;
 use storage::file::writing::{write, write_blank};
 use storage::{
-    Bid, Buyer, Entry, FileStorage, MemoryStorage, OpenRefusal, Page, Price, Span, Storage,
+    Bid, Buyer, Entry, FileStorage, MemoryStorage, OpenRefusal, Page, Price, Span, Stamped, Storage,
     Timestamp,
 };
 
-// What opening as a file of bids answers: 0, or the number of the refusal.
-fn opened(bytes: &[u8]) -> u8 {
-    match open::<Bid>(bytes) {
-        Ok(_) => 0,
-        Err(refusal) => refusal.number(),
-    }
+// How many replicas a file of bids has, or the number of the refusal.
+fn opened(bytes: &[u8]) -> Result<usize, u8> {
+    open::<Bid>(bytes).map_err(|refusal| refusal.number())
 }
 
-// What writing a blank file of bids answers: 0, or the number of the refusal.
-fn written(n: usize, stores: u32, buffer: &mut [u8]) -> u8 {
-    match write_blank::<Bid>(n, stores, buffer) {
-        Ok(()) => 0,
-        Err(refusal) => refusal.number(),
-    }
+// Writes a blank file of bids, or answers the number of the refusal.
+fn written(n: usize, stores: u32, buffer: &mut [u8]) -> Result<(), u8> {
+    write_blank::<Bid>(n, stores, buffer).map_err(|refusal| refusal.number())
 }
 
 // A file with one byte more than it should have.
@@ -33,89 +28,89 @@ fn three_and_one() -> [u8; 137] {
 // Bytes that are put into the file of three replicas, of which so many are opened.
 #[derive(Clone, Copy)]
 struct Case {
-    changes: [(usize, u8); 3],
+    changes: &'static [(usize, u8)],
     size: usize,
-    number: u8,
+    answer: Result<usize, u8>,
 }
 
 // Each refusal comes before those below it, which the same bytes give reason for too.
 const REFUSED: [Case; 14] = [
     Case {
-        changes: [(0, 3), (0, 3), (0, 3)],
+        changes: &[],
         size: 136,
-        number: 0,
+        answer: Ok(3),
     },
     Case {
-        changes: [(135, 255), (28, 255), (99, 1)],
+        changes: &[(135, 255), (28, 255), (99, 1)],
         size: 136,
-        number: 0,
+        answer: Ok(3),
     },
     Case {
-        changes: [(0, 0), (1, 2), (2, 1)],
+        changes: &[(0, 0), (1, 2), (2, 1)],
         size: 0,
-        number: 1,
+        answer: Err(1),
     },
     Case {
-        changes: [(0, 0), (1, 2), (2, 1)],
+        changes: &[(0, 0), (1, 2), (2, 1)],
         size: 3,
-        number: 1,
+        answer: Err(1),
     },
     Case {
-        changes: [(0, 0), (1, 2), (4, 1)],
+        changes: &[(0, 0), (1, 2), (4, 1)],
         size: 135,
-        number: 2,
+        answer: Err(2),
     },
     Case {
-        changes: [(0, 16), (1, 2), (4, 1)],
+        changes: &[(0, 16), (1, 2), (4, 1)],
         size: 137,
-        number: 2,
+        answer: Err(2),
     },
     Case {
-        changes: [(2, 1), (1, 2), (4, 1)],
+        changes: &[(2, 1), (1, 2), (4, 1)],
         size: 4,
-        number: 2,
+        answer: Err(2),
     },
     Case {
-        changes: [(3, 1), (1, 2), (4, 1)],
+        changes: &[(3, 1), (1, 2), (4, 1)],
         size: 135,
-        number: 2,
+        answer: Err(2),
     },
     Case {
-        changes: [(1, 2), (4, 1), (0, 3)],
+        changes: &[(1, 2), (4, 1)],
         size: 4,
-        number: 1,
+        answer: Err(1),
     },
     Case {
-        changes: [(1, 2), (4, 1), (0, 3)],
+        changes: &[(1, 2), (4, 1)],
         size: 135,
-        number: 1,
+        answer: Err(1),
     },
     Case {
-        changes: [(1, 2), (4, 1), (0, 3)],
+        changes: &[(1, 2), (4, 1)],
         size: 137,
-        number: 1,
+        answer: Err(1),
     },
     Case {
-        changes: [(1, 2), (4, 1), (0, 4)],
+        changes: &[(1, 2), (4, 1), (0, 4)],
         size: 136,
-        number: 1,
+        answer: Err(1),
     },
     Case {
-        changes: [(1, 2), (4, 1), (0, 3)],
+        changes: &[(1, 2), (4, 1)],
         size: 136,
-        number: 3,
+        answer: Err(3),
     },
     Case {
-        changes: [(1, 1), (24, 1), (0, 3)],
+        changes: &[(24, 1)],
         size: 136,
-        number: 4,
+        answer: Err(4),
     },
 ];
 
 // The file of three replicas with these bytes put into it.
-fn changed(changes: [(usize, u8); 3]) -> [u8; 137] {
+fn changed(changes: &[(usize, u8)]) -> [u8; 137] {
     let mut bytes = three_and_one();
-    for (at, byte) in changes {
+    for &(at, byte) in changes {
         if at < 137 {
             bytes[at] = byte;
         }
@@ -129,7 +124,7 @@ fn refusals_in_order(rt: HostRuntime) {
         let bytes = changed(case.changes);
         let size = case.size;
         assert!(rt; size <= 137);
-        assert_eq!(rt; opened(&bytes[0..size]), case.number);
+        assert_eq!(rt; opened(&bytes[0..size]), case.answer);
     }
 }
 
@@ -147,15 +142,15 @@ fn refused_for(at: usize, byte: u8) -> u8 {
 #[test]
 fn each_byte_before_the_records(rt: HostRuntime) {
     let file = three_and_one();
-    assert_eq!(rt; opened(&file[0..136]), 0);
+    assert_eq!(rt; opened(&file[0..136]), Ok(3));
     for at in 0..28 {
         for byte in 0..=255 {
             let mut bytes = file;
             bytes[at] = byte;
             let expected = if byte == file[at] {
-                0
+                Ok(3)
             } else {
-                refused_for(at, byte)
+                Err(refused_for(at, byte))
             };
             assert_eq!(rt; opened(&bytes[0..136]), expected);
         }
@@ -163,16 +158,13 @@ fn each_byte_before_the_records(rt: HostRuntime) {
 }
 
 #[test]
-fn wrong_pairs_by_name(rt: HostRuntime) -> Result<(), Fail> {
+fn wrong_pairs_by_name(rt: HostRuntime) {
     for at in 4..28 {
         let mut bytes = three_and_one();
         bytes[at] ^= 1;
-        match open::<Bid>(&bytes[0..136]) {
-            Err(OpenRefusal::Pair(i)) => assert_eq!(rt; i, (at - 4) / 8),
-            _ => return Err(Fail::new("no pair is named")),
-        }
+        let pair = (at - 4) / 8;
+        assert_eq!(rt; open::<Bid>(&bytes[0..136]), Err(OpenRefusal::Pair(pair)));
     }
-    Ok(())
 }
 
 #[test]
@@ -189,18 +181,18 @@ fn places_of_three(rt: HostRuntime) {
 fn one_to_fifteen(rt: HostRuntime) -> Result<(), Fail> {
     for n in 1..16 {
         let exact = 4 + 44 * n;
-        for (size, number) in [(exact - 1, 1), (exact, 0), (exact + 1, 1)] {
+        for (size, answer) in [(exact - 1, Err(1)), (exact, Ok(())), (exact + 1, Err(1))] {
             let before = vec![in rt.alloc(); 170u8; size]?;
             let mut buffer = before.clone()?;
-            assert_eq!(rt; written(n, 5, &mut buffer), number);
-            assert_eq!(rt; buffer.as_slice() == before.as_slice(), number == 1);
-            assert_eq!(rt; open::<Bid>(&buffer).is_ok(), number == 0);
+            assert_eq!(rt; written(n, 5, &mut buffer), answer);
+            assert_eq!(rt; buffer.as_slice() == before.as_slice(), answer.is_err());
+            assert_eq!(rt; open::<Bid>(&buffer).is_ok(), answer.is_ok());
         }
     }
     for n in [0, 16, 1000] {
         let before = vec![in rt.alloc(); 170u8; 136]?;
         let mut buffer = before.clone()?;
-        assert_eq!(rt; written(n, 5, &mut buffer), 5);
+        assert_eq!(rt; written(n, 5, &mut buffer), Err(5));
         assert!(rt; buffer.as_slice() == before.as_slice());
     }
     Ok(())
@@ -211,11 +203,13 @@ fn page_of(seed: u32) -> Page {
     let seed = seed % 16;
     Page {
         incarnation: seed + 0x0403_0200,
-        written: Timestamp {
-            sequence: seed + 0x1413_1210,
-            replica: seed + 0x2423_2220,
+        written: Stamped {
+            timestamp: Timestamp {
+                sequence: seed + 0x1413_1210,
+                replica: seed + 0x2423_2220,
+            },
+            code: u64::from(seed) + 0x3736_3534_3332_3130,
         },
-        written_code: u64::from(seed) + 0x3736_3534_3332_3130,
         intended_sequence: seed + 0x4443_4240,
         intended_code: u64::from(seed) + 0x5756_5554_5352_5150,
     }
@@ -250,17 +244,16 @@ fn pages_there_and_back(rt: HostRuntime) -> Result<(), Fail> {
 // The example of docs/TRANSFER_FILE.md.
 #[test]
 fn worked_example(rt: HostRuntime) -> Result<(), Fail> {
-    let price = Price::new(1234).ok_or(1u8)?;
-    let buyer = Buyer::new(56).ok_or(2u8)?;
+    let price = Price::new(1234).ok_or("no price")?;
+    let buyer = Buyer::new(56).ok_or("no buyer")?;
     let code = Bid::Offer { price, buyer }.code();
-    let written = Timestamp {
+    let timestamp = Timestamp {
         sequence: 7,
         replica: 1,
     };
     let page = Page {
         incarnation: 2,
-        written,
-        written_code: code,
+        written: Stamped { timestamp, code },
         intended_sequence: 7,
         intended_code: code,
     };
@@ -285,21 +278,18 @@ fn worked_example(rt: HostRuntime) -> Result<(), Fail> {
 #[test]
 fn stores_in_a_file(rt: HostRuntime) -> Result<(), Fail> {
     let mut blank = [0; 136];
-    assert_eq!(rt; written(3, 2, &mut blank), 0);
+    assert_eq!(rt; written(3, 2, &mut blank), Ok(()));
     let mut file = FileStorage::take::<Bid>(blank.to_vec(rt.alloc())?);
     file.store(1, page_of(4))?;
     assert_eq!(rt; file.page(1)?, page_of(4));
     assert_eq!(rt; file.stores_left(1)?, 1);
     file.store(1, page_of(5))?;
     for (i, number) in [(1, 17), (3, 8)] {
-        match file.store(i, page_of(6)) {
-            Ok(()) => return Err(Fail::new("stored")),
-            Err(fault) => assert_eq!(rt; fault.number(), number),
-        }
+        assert_eq!(rt; fault_parts(file.store(i, page_of(6))), Err((number, i, 0)));
     }
     assert_eq!(rt; file.page(1)?, page_of(5));
     let bytes = file.into_bytes();
-    assert_eq!(rt; opened(&bytes), 0);
+    assert_eq!(rt; opened(&bytes), Ok(3));
     assert!(rt; bytes.len() == 136);
     assert!(rt; bytes[0..64] == blank[0..64]);
     assert!(rt; bytes[100..136] == blank[100..136]);
@@ -313,10 +303,8 @@ fn refused_bytes_are_no_replicas(rt: HostRuntime) -> Result<(), Fail> {
     assert_eq!(rt; none.replicas(), 0);
     assert!(rt; none.page(0).is_err());
     let mut buffer = [170; 4];
-    match write::<Span, FileStorage>(&none, &mut buffer) {
-        Ok(()) => return Err(Fail::new("written")),
-        Err(refusal) => assert_eq!(rt; refusal.number(), 5),
-    }
+    let answer = write::<Span, FileStorage>(&none, &mut buffer);
+    assert_eq!(rt; answer.map_err(|refusal| refusal.number()), Err(5));
     assert!(rt; buffer == [170; 4]);
     let bytes = none.into_bytes();
     assert!(rt; bytes.as_slice() == &file[0..136]);
@@ -339,11 +327,13 @@ fn random_page(seed: u64) -> Page {
     let c = next(b);
     Page {
         incarnation: low(a),
-        written: Timestamp {
-            sequence: low(b),
-            replica: low(c),
+        written: Stamped {
+            timestamp: Timestamp {
+                sequence: low(b),
+                replica: low(c),
+            },
+            code: next(c),
         },
-        written_code: next(c),
         intended_sequence: low(next(next(c))),
         intended_code: next(next(next(c))),
     }

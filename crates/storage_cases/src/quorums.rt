@@ -10,28 +10,26 @@ fn set_of(members: &[usize]) -> ReplicaSet {
     set
 }
 
-// What a rule answers of a set: 1 or 0, or the number of the refusal where no rule was made.
-fn says<Q: Quorum + Copy>(made: Result<Q, QuorumRefusal>, members: &[usize]) -> u8 {
-    match made {
-        Ok(rule) => u8::from(rule.is_quorum(&set_of(members))),
-        Err(refusal) => refusal.number(),
-    }
+// Whether a rule takes a set for a quorum, or the number of the refusal where no rule was made.
+fn says<Q: Quorum + Copy>(made: Result<Q, QuorumRefusal>, members: &[usize]) -> Result<bool, u8> {
+    let rule = made.map_err(|refusal| refusal.number())?;
+    Ok(rule.is_quorum(&set_of(members)))
 }
 
 #[test]
 fn majorities(rt: HostRuntime) {
-    let table: [(usize, &[usize], u8); 11] = [
-        (0, &[0], 5),
-        (1, &[], 0),
-        (1, &[0], 1),
-        (1, &[1, 2, 14, 15], 0),
-        (2, &[1], 0),
-        (2, &[0, 1], 1),
-        (4, &[0, 1, 4, 5], 0),
-        (4, &[0, 1, 2], 1),
-        (15, &[0, 1, 2, 3, 4, 5, 6], 0),
-        (15, &[7, 8, 9, 10, 11, 12, 13, 14], 1),
-        (16, &[0], 5),
+    let table: [(usize, &[usize], Result<bool, u8>); 11] = [
+        (0, &[0], Err(5)),
+        (1, &[], Ok(false)),
+        (1, &[0], Ok(true)),
+        (1, &[1, 2, 14, 15], Ok(false)),
+        (2, &[1], Ok(false)),
+        (2, &[0, 1], Ok(true)),
+        (4, &[0, 1, 4, 5], Ok(false)),
+        (4, &[0, 1, 2], Ok(true)),
+        (15, &[0, 1, 2, 3, 4, 5, 6], Ok(false)),
+        (15, &[7, 8, 9, 10, 11, 12, 13, 14], Ok(true)),
+        (16, &[0], Err(5)),
     ];
     for (replicas, members, answer) in table {
         assert_eq!(rt; says(Majority::new(replicas), members), answer);
@@ -40,19 +38,19 @@ fn majorities(rt: HostRuntime) {
 
 #[test]
 fn weights(rt: HostRuntime) {
-    let table: [(&[u8], &[usize], u8); 12] = [
-        (&[], &[0], 5),
-        (&[0], &[0], 10),
-        (&[1], &[0], 1),
-        (&[1], &[1], 0),
-        (&[0, 1], &[0], 0),
-        (&[0, 1], &[1], 1),
-        (&[3, 1, 1], &[0], 1),
-        (&[3, 1, 1], &[1, 2], 0),
-        (&[255; 15], &[0, 1, 2, 3, 4, 5, 6], 0),
-        (&[255; 15], &[7, 8, 9, 10, 11, 12, 13, 14], 1),
-        (&[0; 15], &[0], 10),
-        (&[0; 16], &[0], 5),
+    let table: [(&[u8], &[usize], Result<bool, u8>); 12] = [
+        (&[], &[0], Err(5)),
+        (&[0], &[0], Err(10)),
+        (&[1], &[0], Ok(true)),
+        (&[1], &[1], Ok(false)),
+        (&[0, 1], &[0], Ok(false)),
+        (&[0, 1], &[1], Ok(true)),
+        (&[3, 1, 1], &[0], Ok(true)),
+        (&[3, 1, 1], &[1, 2], Ok(false)),
+        (&[255; 15], &[0, 1, 2, 3, 4, 5, 6], Ok(false)),
+        (&[255; 15], &[7, 8, 9, 10, 11, 12, 13, 14], Ok(true)),
+        (&[0; 15], &[0], Err(10)),
+        (&[0; 16], &[0], Err(5)),
     ];
     for (weights, members, answer) in table {
         assert_eq!(rt; says(Weighted::new(weights), members), answer);

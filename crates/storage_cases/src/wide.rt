@@ -14,9 +14,8 @@ pub struct WideStorage {
 
 impl WideStorage {
     pub fn blank(left: u32) -> WideStorage {
-        let page = Page::BLANK;
         WideStorage {
-            cells: [Cell { page, left }; 20],
+            cells: [Cell::blank(left); 20],
         }
     }
 
@@ -31,6 +30,7 @@ impl WideStorage {
     }
 }
 
+// Three short bodies: a trait of cells under this one would be longer.
 impl Storage for WideStorage {
     ghost replicas = { λ _. 20 };
 
@@ -55,12 +55,7 @@ impl Storage for WideStorage {
     }
 
     fn store(&mut self, i: usize, new: Page) -> Result<(), StorageFault> {
-        let left = self
-            .cell(i)?
-            .left
-            .checked_sub(1)
-            .ok_or(StorageFault::new(Reason::NoStoresLeft, i))?;
-        self.cells[i] = Cell { page: new, left };
+        self.cells[i] = self.cell(i)?.stored(i, new)?;
         Ok(())
     }
 }

@@ -7,7 +7,7 @@ use crate::entry::Entry;
 use crate::entry::buyer::Buyer;
 use crate::entry::price::Price;
 
-#[derive(Clone, Copy, PartialEq, Eq)]
+#[derive(Clone, Copy, PartialEq, Eq, Debug)]
 pub enum Bid {
     // no bid yet: the blank entry
     Open,

@@ -3,6 +3,7 @@ ghost use Rattle.std.specs.Prelude.{◌≤◌};
 
 pub mod making;
 
+// Why it is not one generic type with Price is said there.
 #[derive(Clone, Copy, PartialEq, Eq, Debug)]
 pub struct Buyer {
     pub value: u16,

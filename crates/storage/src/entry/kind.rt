@@ -23,6 +23,7 @@ impl TryFrom<u64> for Kind {
 
     fn try_from(number: u64) -> Result<Kind, NoSuchKind> {
         match number {
+            // The numbers of Bid::KIND and Span::KIND: the constant of a trait is no pattern.
             1 => Ok(Kind::Bid),
             2 => Ok(Kind::Span),
             _ => Err(NoSuchKind(number)),
@@ -31,7 +32,7 @@ impl TryFrom<u64> for Kind {
 }
 
 impl From<Kind> for u8 {
-    // and the number leads back to the kind
+    // The number leads back to the kind.
     ghost from_gives = { λ kind number. (number ≡ kind_number kind) × (kind_of number ≡ Ok kind) };
 
     fn from(kind: Kind) -> u8 {

@@ -9,7 +9,6 @@ ghost use Rattle.storage.specs.declared.stable.memory.Cell.{Cell as CellOf};
 use crate::file::layout::Layout;
 use crate::file::parts::put;
 use crate::file::records::put_record;
-use crate::page::Page;
 use crate::stable::Storage;
 use crate::stable::memory::Cell;
 
@@ -44,10 +43,7 @@ impl Records for Blank {
     }
 
     fn cell(&self, _i: usize) -> Cell {
-        Cell {
-            page: Page::BLANK,
-            left: self.stores,
-        }
+        Cell::blank(self.stores)
     }
 }
 

@@ -21,7 +21,7 @@ pub enum OpenRefusal {
 }
 
 impl OpenRefusal {
-    // By cases: an enum whose variant holds a value is cast to no number.
+    // By a match: an enum with a variant that holds a value has no numbers of its own.
     pub fn number(self) -> u8
         ensures { result ≡ open_number self }
     {
@@ -70,7 +70,7 @@ pub fn open<E: Entry>(bytes: &[u8]) -> Result<usize, OpenRefusal>
     let [count, kind, zero_a, zero_b, ..] = bytes else {
         return Err(OpenRefusal::Length);
     };
-    let layout = Layout::of(*count as usize).ok_or(OpenRefusal::Header)?;
+    let layout = Layout::of(usize::from(*count)).ok_or(OpenRefusal::Header)?;
     if *zero_a != 0 || *zero_b != 0 {
         return Err(OpenRefusal::Header);
     }

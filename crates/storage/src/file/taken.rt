@@ -21,7 +21,8 @@ use crate::stable::memory::Cell;
 #[derive(Drop)]
 pub struct FileStorage {
     bytes: Vec<u8>,
-    // how many replicas it has: none where the bytes are no file
+    // How many replicas it has: 0 is what `replicas` answers of bytes that are no file, and clauses
+    // name it: an Option would be unwrapped in each.
     count: usize,
     ghost few: { count ≤ 15 },
     ghost room: { (0 < count → file_length count ≤ vec_len bytes) },
@@ -81,6 +82,7 @@ impl FileStorage {
     }
 }
 
+// Three short bodies: a trait of cells under this one would be longer.
 impl Storage for FileStorage {
     ghost replicas = { λ f. f.count };
 

@@ -18,6 +18,7 @@ pub enum WriteRefusal {
 }
 
 impl WriteRefusal {
+    // A method and no conversion: it is the number that users know, as every refusal has one.
     pub fn number(self) -> u8
         ensures { result ≡ write_number self }
     {

@@ -12,7 +12,7 @@ pub enum QuorumRefusal {
 }
 
 impl QuorumRefusal {
-    // The number that users know the refusal by.
+    // A method and no conversion: it is the number that users know, as every refusal has one.
     pub fn number(self) -> u8
         ensures { result ≡ refusal_number self }
     {

@@ -18,8 +18,18 @@ pub struct Cell {
 }
 
 impl Cell {
+    // The cell of a replica that has stored nothing and may store so often.
+    pub fn blank(stores: u32) -> Cell
+        ensures { result ≡ blank_cell stores }
+    {
+        Cell {
+            page: Page::BLANK,
+            left: stores,
+        }
+    }
+
     // The cell of replica i after it stored a page, which takes one of its stores.
-    pub(crate) fn stored(self, i: usize, new: Page) -> Result<Cell, StorageFault>
+    pub fn stored(self, i: usize, new: Page) -> Result<Cell, StorageFault>
         ensures { result ≡ cell_stored i self new }
     {
         let left = self
@@ -43,6 +53,7 @@ pub enum MakeError {
 }
 
 impl MakeError {
+    // A method and no conversion: it is the number that users know, as every refusal has one.
     pub fn number(self) -> u8
         ensures { result ≡ made_number self }
     {
@@ -66,11 +77,7 @@ impl MemoryStorage {
         if !(1..=15).contains(&n) {
             return Err(MakeError::ReplicaCount);
         }
-        let cell = Cell {
-            page: Page::BLANK,
-            left: stores,
-        };
-        let cells = vec![in heap; cell; n]?;
+        let cells = vec![in heap; Cell::blank(stores); n]?;
         Ok(MemoryStorage { cells })
     }
 
@@ -85,6 +92,7 @@ impl MemoryStorage {
     }
 }
 
+// Three short bodies: a trait of cells under this one would be longer.
 impl Storage for MemoryStorage {
     ghost replicas = { λ m. vec_len m.cells };
 

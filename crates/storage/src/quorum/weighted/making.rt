@@ -33,9 +33,11 @@ impl Weighted {
         ensures { result ≡ weigh (weight_at self.now.weights) (member set.now) self.now.replicas }
     {
         let weights = self.weights.as_slice();
-        (0..self.replicas)
-            .filter(|&replica| set.contains(replica))
-            .map(|replica| u16::from(weights.get(replica).copied().unwrap_or(0)))
+        weights
+            .iter()
+            .zip(0..self.replicas)
+            .filter(|(_, replica)| set.contains(*replica))
+            .map(|(weight, _)| u16::from(*weight))
             .sum()
     }
 }
