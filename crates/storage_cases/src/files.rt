@@ -4,8 +4,8 @@ use std::test::Fail;
 use storage::file::opening::open;
 use storage::file::writing::{write, write_blank};
 use storage::{
-    Bid, Buyer, Entry, FileStorage, MemoryStorage, OpenRefusal, Page, Price, Span, Stamped, Storage,
-    Timestamp,
+    Bid, Buyer, Entry, FileStorage, MemoryStorage, OpenRefusal, Page, Price, Span, Stamped,
+    Storage, Timestamp,
 };
 
 // How many replicas a file of bids has, or the number of the refusal.
