@@ -1,3 +1,2 @@
 pub mod LineCutting
 pub mod NumberReading
-pub mod TableRegister
