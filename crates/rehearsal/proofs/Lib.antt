@@ -1,2 +1,3 @@
 pub mod LineCutting
+pub mod OpeningRange
 pub mod NumberReading

@@ -1,13 +1,13 @@
 // A rehearsal of runs: one line in, and at most one line out.
-ghost use Rattle.std.specs.Prelude.{◌≡◌, true, IfOk, MatchResult};
+ghost use Rattle.std.specs.Prelude.{◌≡◌, IfOk, MatchResult};
 ghost use Rattle.cluster.specs.Fitness.{of_kind};
 ghost use Rattle.cluster.specs.States.{Does};
 ghost use Rattle.rehearsal.specs.Rehearsals.{heard, is_over, is_waiting, opened_by, register_setup, register_state, replied, stage_of, table_setup, table_state};
 ghost use Rattle.rehearsal.specs.declared.rehearsal.Rehearsal.TheVariants.{Waiting};
-ghost use Rattle.storage.specs.Memories.{count_fits};
 
 use crate::command::event_of;
-use crate::opening::{Opening, opening_of};
+use crate::opening::Opening;
+use crate::opening::reading::opening_of;
 use crate::reply::Reply;
 use cluster::Cluster;
 use std::alloc::{AllocError, Global};
@@ -92,7 +92,6 @@ impl Rehearsal {
 
 // The run that a first line opens, with a register of the kind that it asks for.
 fn run_of(heap: Global, opening: &Opening) -> Result<Rehearsal, NoMemory>
-    requires { count_fits opening.now.replicas ≡ true }
     ensures { IfOk result (λ run. opened_by (Some opening.now) ≡ (stage_of run, None)) }
 {
     Ok(match opening.kind {
@@ -106,7 +105,6 @@ fn register_of<E: Entry>(
     heap: Global,
     opening: &Opening,
 ) -> Result<Cluster<MemoryStorage, Majority, E>, NoMemory>
-    requires { count_fits opening.now.replicas ≡ true }
     ensures { IfOk result (λ c. (register_setup E.Entry c ≡ table_setup opening.now.replicas (of_kind E.Entry)) × (register_state c ≡ table_state opening.now.replicas opening.now.stores)) }
 {
     let storage = match MemoryStorage::blank(heap, opening.replicas, opening.stores) {
