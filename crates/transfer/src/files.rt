@@ -19,7 +19,7 @@ pub fn make<E: Entry>(
     stores: u32,
     path: &str,
 ) -> Result<(), Failure> {
-    // As storage counts it: how long a file is, it tells no other crate.
+    // The length as storage has it, which tells it to no other crate.
     let size = 4 + 44 * replicas.min(15);
     let mut buffer = zeros(rt, size)?;
     if let Err(refusal) = write_blank::<E>(replicas, stores, &mut buffer) {
