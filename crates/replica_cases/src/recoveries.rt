@@ -17,20 +17,12 @@ fn an_intended_write_is_finished(rt: HostRuntime) -> Result<(), Fail> {
         intended_code: 50,
         ..page()
     };
+    let finishing = Seen::Updates(at(2, 0), 20, true);
+    let again = Seen::Updates(at(5, 0), 50, true);
     let table = [
         (nothing_intended, Seen::Recovered, Status::Idle, 0),
-        (
-            page(),
-            Seen::Updates(at(2, 0), 20, true),
-            Status::Recovering,
-            1,
-        ),
-        (
-            kept_already,
-            Seen::Updates(at(5, 0), 50, true),
-            Status::Recovering,
-            1,
-        ),
+        (page(), finishing, Status::Recovering, 1),
+        (kept_already, again, Status::Recovering, 1),
     ];
     for (held, expected, then, round) in table {
         let mut storage = storage_with(rt.alloc(), held, 1)?;
