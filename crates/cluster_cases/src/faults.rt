@@ -1,21 +1,20 @@
 // Faults, whole: number, replica, refusing layer, task, and the place in the list.
 use crate::runs::outcome_of;
-use cluster::{Answer, Cluster, Event, Failure, Refusal};
-use replica::{ReplicaFault, ReplicaRefusal, Task};
+use crate::scene::register;
+use cluster::{Answer, Cluster, ClusterFault, Event, Failure, Refusal};
+use replica::{Outcome, ReplicaRefusal, Task};
 use std::alloc::Global;
 use std::process::Abort;
 use std::test::Fail;
-use storage::{Entry, Majority, MemoryStorage, Page, QuotaStorage, Span, Storage, Timestamp};
+use storage::{Majority, MemoryStorage, Page, QuotaStorage, Span, Storage, Timestamp};
 
 type Register = Cluster<QuotaStorage<MemoryStorage>, Majority, Span>;
 
 // One replica that holds this page, with so many stores in memory, under a quota of so many.
-fn register(heap: Global, page: Page, stores: u32, quota: u32) -> Result<Register, Fail> {
+fn under_quota(heap: Global, page: Page, stores: u32, quota: u32) -> Result<Register, Fail> {
     let mut memory = MemoryStorage::blank(heap, 1, stores.saturating_add(1))?;
     memory.store(0, page)?;
-    let majority = Majority::new(1)?;
-    Cluster::new(heap, QuotaStorage::over(memory, &[quota]), majority)
-        .map_err(|_| Fail::new("no memory"))
+    register(heap, QuotaStorage::over(memory, &[quota]), 1)
 }
 
 // A list of events after which a write ends; the last answer, if all before it were accepted.
@@ -39,10 +38,17 @@ fn last_of_write(rt: &impl Abort, register: &mut Register) -> Answer {
     answers[3]
 }
 
-fn fault_of(answer: &Answer) -> Result<(ReplicaFault, usize), Fail> {
+fn fault_of(answer: &Answer) -> Result<ClusterFault, Fail> {
     match answer.outcome {
-        Err(Failure::Fault(fault)) => Ok((fault.replica, fault.place)),
+        Err(Failure::Fault(fault)) => Ok(fault),
         _ => Err(Fail::new("no fault")),
+    }
+}
+
+fn number_of(failure: Failure) -> u8 {
+    match failure {
+        Failure::Fault(fault) => fault.replica.number(),
+        Failure::Refused(refusal) => refusal.number(),
     }
 }
 
@@ -50,14 +56,14 @@ fn fault_of(answer: &Answer) -> Result<(ReplicaFault, usize), Fail> {
 fn an_intention_is_refused_by_the_layer_that_is_empty(rt: HostRuntime) -> Result<(), Fail> {
     // where both are empty the quota refuses, else the memory below it
     for (stores, quota, layer) in [(1, 1, 0), (1, 2, 1), (2, 1, 0)] {
-        let mut register = register(rt.alloc(), Page::BLANK, stores, quota)?;
+        let mut register = under_quota(rt.alloc(), Page::BLANK, stores, quota)?;
         let answer = last_of_write(&rt, &mut register);
-        let (fault, place) = fault_of(&answer)?;
+        let ClusterFault { replica, place } = fault_of(&answer)?;
         assert_eq!(rt;
-            (fault.number(), fault.replica(), fault.layer()),
+            (replica.number(), replica.replica(), replica.layer()),
             (17, 0, layer)
         );
-        assert_eq!(rt; fault.task, Some(Task::NotingIntention));
+        assert_eq!(rt; replica.task, Some(Task::NotingIntention));
         assert_eq!(rt; place, 3);
         assert_eq!(rt; (answer.sent, answer.dropped, answer.stored), (0, 0, 0));
         assert!(rt; register.in_transit().is_ok());
@@ -65,44 +71,50 @@ fn an_intention_is_refused_by_the_layer_that_is_empty(rt: HostRuntime) -> Result
     Ok(())
 }
 
+// A page that holds an entry of this sequence.
+fn written(sequence: u32) -> Page {
+    Page {
+        written: Timestamp {
+            sequence,
+            replica: 0,
+        },
+        written_code: 7,
+        ..Page::BLANK
+    }
+}
+
 #[test]
 fn the_last_sequence_has_no_next(rt: HostRuntime) -> Result<(), Fail> {
-    for (sequence, letter, number) in [(999_998, b'-', 0), (999_999, b'f', 18)] {
-        let page = Page {
-            written: Timestamp {
-                sequence,
-                replica: 0,
-            },
-            written_code: 7,
-            ..Page::BLANK
-        };
-        let mut register = register(rt.alloc(), page, 9, 9)?;
-        let answer = last_of_write(&rt, &mut register);
-        assert_eq!(rt; outcome_of(&answer), (letter, number));
-        if letter == b'f' {
-            let (fault, place) = fault_of(&answer)?;
-            assert_eq!(rt; (fault.replica(), fault.layer(), place), (0, 0, 3));
-            assert_eq!(rt; fault.task, Some(Task::NotingIntention));
-        }
-    }
+    let mut last_but_one = under_quota(rt.alloc(), written(999_998), 9, 9)?;
+    assert_eq!(rt; last_of_write(&rt, &mut last_but_one).outcome, Ok(None));
+    let mut last = under_quota(rt.alloc(), written(999_999), 9, 9)?;
+    let ClusterFault { replica, place } = fault_of(&last_of_write(&rt, &mut last))?;
+    assert_eq!(rt;
+        (replica.number(), replica.replica(), replica.layer()),
+        (18, 0, 0)
+    );
+    assert_eq!(rt; replica.task, Some(Task::NotingIntention));
+    assert_eq!(rt; place, 3);
     Ok(())
 }
 
 #[test]
 fn recovery_is_refused_for_incarnations_before_stores(rt: HostRuntime) -> Result<(), Fail> {
-    for (incarnation, stores, number) in [(9_999, 0, 16), (9_998, 0, 17), (9_998, 1, 0)] {
+    for (incarnation, stores, expected) in [
+        (9_999, 0, Err(16)),
+        (9_998, 0, Err(17)),
+        (9_998, 1, Ok(Some(Outcome::Recovered))),
+    ] {
         let page = Page {
             incarnation,
             ..Page::BLANK
         };
-        let mut register = register(rt.alloc(), page, stores, 9)?;
+        let mut register = under_quota(rt.alloc(), page, stores, 9)?;
         let answer = register.act(&Event::Recover { replica: 0 });
-        match answer.outcome {
-            Err(Failure::Refused(refusal)) => assert_eq!(rt; refusal.number(), number),
-            _ => assert_eq!(rt; number, 0),
-        }
-        if let Err(Failure::Refused(Refusal::Replica(ReplicaRefusal::Failed(fault)))) =
-            answer.outcome
+        assert_eq!(rt; answer.outcome.map_err(number_of), expected);
+        if let Err(
+            Failure::Refused(Refusal::Replica(ReplicaRefusal::Failed(fault))),
+        ) = answer.outcome
         {
             assert_eq!(rt;
                 (fault.number(), fault.replica(), fault.layer()),

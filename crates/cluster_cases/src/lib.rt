@@ -9,3 +9,5 @@ mod questions;
 mod refusals;
 #[cfg(test)]
 mod runs;
+#[cfg(test)]
+mod scene;

@@ -1,10 +1,12 @@
 // Whole runs, event by event and as a list.
-use cluster::{Answer, Cluster, Event, Failure};
+use crate::scene::register;
+use cluster::{Answer, Event, Failure};
 use replica::Outcome;
 use std::test::Fail;
-use storage::{Majority, MemoryStorage, Span};
+use storage::{MemoryStorage, Span};
 
-// The letter of an outcome and its number: the sequence written, the code read, or why.
+// The letter of an outcome and its number: the sequence written, the code read, or why. By letter and
+// number, as a rehearsal prints them.
 pub fn outcome_of(answer: &Answer) -> (u8, u64) {
     match answer.outcome {
         Ok(None) => (b'-', 0),
@@ -46,9 +48,7 @@ const SCRIPT: [(Event, (u8, u64), usize, usize, usize); 12] = [
 #[test]
 fn one_replica_writes_and_reads(rt: HostRuntime) -> Result<(), Fail> {
     let storage = MemoryStorage::blank(rt.alloc(), 1, 10)?;
-    let majority = Majority::new(1)?;
-    let mut register = Cluster::<_, _, Span>::new(rt.alloc(), storage, majority)
-        .map_err(|_| Fail::new("no memory"))?;
+    let mut register = register::<_, Span>(rt.alloc(), storage, 1)?;
     for (event, outcome, sent, stored, transit) in SCRIPT {
         let answer = register.act(&event);
         assert_eq!(rt; outcome_of(&answer), outcome);

@@ -11,33 +11,27 @@ mod reply;
 mod session;
 mod worked_cases;
 
+use crate::rehearsal::NoMemory;
 use crate::reply::Reply;
 use crate::session::Session;
-use std::alloc::AllocError;
 use std::io;
 use std::io::Read;
 use std::process::ExitCode;
-use storage::stable::memory::MakeError;
 
 // Why the program ends with status 1: standard input or output failed, or there was no memory. The other
 // program has a type of its own: one program is no library for another.
 #[derive(Drop)]
 struct Failure;
 
+// `?` needs one for each error.
 impl From<io::Error> for Failure {
     fn from(_error: io::Error) -> Failure {
         Failure
     }
 }
 
-impl From<AllocError> for Failure {
-    fn from(_error: AllocError) -> Failure {
-        Failure
-    }
-}
-
-impl From<MakeError> for Failure {
-    fn from(_error: MakeError) -> Failure {
+impl From<NoMemory> for Failure {
+    fn from(_error: NoMemory) -> Failure {
         Failure
     }
 }

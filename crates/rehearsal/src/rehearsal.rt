@@ -1,20 +1,30 @@
 // A rehearsal of runs: one line in, and at most one line out.
-ghost use Rattle.std.specs.Prelude.{◌≡◌, true, MatchResult};
+ghost use Rattle.std.specs.Prelude.{◌≡◌, IfOk, MatchResult};
 ghost use Rattle.cluster.specs.Fitness.{of_kind};
 ghost use Rattle.cluster.specs.States.{Does};
 ghost use Rattle.rehearsal.specs.Rehearsals.{heard, is_over, is_waiting, opened_by, register_setup, register_state, replied, stage_of, table_setup, table_state};
 ghost use Rattle.rehearsal.specs.declared.rehearsal.Rehearsal.TheVariants.{Waiting};
-ghost use Rattle.storage.specs.Memories.{count_fits};
-ghost use Rattle.storage.specs.declared.stable.memory.MakeError.TheVariants.{NoMemory};
 
 use crate::command::event_of;
-use crate::opening::{Opening, opening_of};
+use crate::opening::Opening;
+use crate::opening::reading::opening_of;
 use crate::reply::Reply;
 use cluster::Cluster;
-use std::alloc::Global;
+use std::alloc::{AllocError, Global};
 use storage::stable::memory::MakeError;
 use storage::{Bid, Entry, Kind, Majority, MemoryStorage, Quorum, Span, Storage};
 
+// There was no memory: all that can stand in the way of a line.
+#[derive(Clone, Copy, PartialEq, Eq, Debug)]
+pub struct NoMemory;
+
+impl From<AllocError> for NoMemory {
+    fn from(_error: AllocError) -> NoMemory {
+        NoMemory
+    }
+}
+
+// What it means, `stage_of`, is a definition beside it: an enum can have no `impl Model` yet.
 #[derive(Drop)]
 pub enum Rehearsal {
     // the first line is awaited
@@ -40,8 +50,8 @@ fn reply_to<S: Storage, Q: Quorum, E: Entry>(register: &mut Cluster<S, Q, E>, li
 impl Rehearsal {
     // Takes the next line, without its line feed; the reply to it, if there is one. Only the first line
     // can be refused, for want of memory, and then it is still awaited.
-    pub fn line(&mut self, heap: Global, line: &[u8]) -> Result<Option<Reply>, MakeError>
-        ensures { MatchResult result (λ said. heard (stage_of self.old) line.now ≡ (stage_of self.new, said)) (λ e. (e ≡ NoMemory) × (self.old ≡ Waiting) × (self.new ≡ Waiting)) }
+    pub fn line(&mut self, heap: Global, line: &[u8]) -> Result<Option<Reply>, NoMemory>
+        ensures { MatchResult result (λ said. heard (stage_of self.old) line.now ≡ (stage_of self.new, said)) (λ _. (self.old ≡ Waiting) × (self.new ≡ Waiting)) }
     {
         // The two registers have two types, so each has its own arm.
         match self {
@@ -67,9 +77,9 @@ impl Rehearsal {
     }
 
     // Takes the first line.
-    fn open(&mut self, heap: Global, line: &[u8]) -> Result<Option<Reply>, MakeError>
+    fn open(&mut self, heap: Global, line: &[u8]) -> Result<Option<Reply>, NoMemory>
         requires { self.old ≡ Waiting }
-        ensures { MatchResult result (λ said. heard (stage_of self.old) line.now ≡ (stage_of self.new, said)) (λ e. (e ≡ NoMemory) × (self.new ≡ Waiting)) }
+        ensures { MatchResult result (λ said. heard (stage_of self.old) line.now ≡ (stage_of self.new, said)) (λ _. self.new ≡ Waiting) }
     {
         let Some(opening) = opening_of(line) else {
             *self = Rehearsal::Over;
@@ -81,9 +91,8 @@ impl Rehearsal {
 }
 
 // The run that a first line opens, with a register of the kind that it asks for.
-fn run_of(heap: Global, opening: &Opening) -> Result<Rehearsal, MakeError>
-    requires { count_fits opening.now.replicas ≡ true }
-    ensures { MatchResult result (λ run. opened_by (Some opening.now) ≡ (stage_of run, None)) (λ e. e ≡ NoMemory) }
+fn run_of(heap: Global, opening: &Opening) -> Result<Rehearsal, NoMemory>
+    ensures { IfOk result (λ run. opened_by (Some opening.now) ≡ (stage_of run, None)) }
 {
     Ok(match opening.kind {
         Kind::Bid => Rehearsal::Bids(register_of(heap, opening)?),
@@ -95,13 +104,19 @@ fn run_of(heap: Global, opening: &Opening) -> Result<Rehearsal, MakeError>
 fn register_of<E: Entry>(
     heap: Global,
     opening: &Opening,
-) -> Result<Cluster<MemoryStorage, Majority, E>, MakeError>
-    requires { count_fits opening.now.replicas ≡ true }
-    ensures { MatchResult result (λ c. (register_setup E.Entry c ≡ table_setup opening.now.replicas (of_kind E.Entry)) × (register_state c ≡ table_state opening.now.replicas opening.now.stores)) (λ e. e ≡ NoMemory) }
+) -> Result<Cluster<MemoryStorage, Majority, E>, NoMemory>
+    ensures { IfOk result (λ c. (register_setup E.Entry c ≡ table_setup opening.now.replicas (of_kind E.Entry)) × (register_state c ≡ table_state opening.now.replicas opening.now.stores)) }
 {
-    let storage = MemoryStorage::blank(heap, opening.replicas, opening.stores)?;
+    let storage = match MemoryStorage::blank(heap, opening.replicas, opening.stores) {
+        Ok(storage) => storage,
+        Err(MakeError::NoMemory) => return Err(NoMemory),
+        Err(MakeError::ReplicaCount) => unreachable(),
+    };
     let Ok(majority) = Majority::new(opening.replicas) else {
         unreachable()
     };
-    Cluster::new(heap, storage, majority).map_err(|_| MakeError::NoMemory)
+    let Ok(register) = Cluster::new(heap, storage, majority) else {
+        return Err(NoMemory);
+    };
+    Ok(register)
 }

@@ -6,7 +6,8 @@ use crate::rehearsal::Rehearsal;
 pub mod feeding;
 
 // The line that is being read is held as far as one byte past the longest, which tells that it is too
-// long. Room for it is made once.
+// long. Room for it is made once. What it means, `session_of`, is a definition beside it: it holds the functions
+// of a setup, and what an `impl Model` gives must have a code, which no function has.
 #[derive(Drop)]
 pub struct Session {
     rehearsal: Rehearsal,

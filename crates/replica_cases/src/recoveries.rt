@@ -17,28 +17,18 @@ fn an_intended_write_is_finished(rt: HostRuntime) -> Result<(), Fail> {
         intended_code: 50,
         ..page()
     };
+    let finishing = Seen::Updates(at(2, 0), 20, true);
+    let again = Seen::Updates(at(5, 0), 50, true);
     let table = [
         (nothing_intended, Seen::Recovered, Status::Idle, 0),
-        (
-            page(),
-            Seen::Updates(at(2, 0), 20, true),
-            Status::Recovering,
-            1,
-        ),
-        (
-            kept_already,
-            Seen::Updates(at(5, 0), 50, true),
-            Status::Recovering,
-            1,
-        ),
+        (page(), finishing, Status::Recovering, 1),
+        (kept_already, again, Status::Recovering, 1),
     ];
     for (held, expected, then, round) in table {
         let mut storage = storage_with(rt.alloc(), held, 1)?;
         let mut replica = Replica::new();
-        match replica.recover(&mut storage, 0) {
-            Ok(reaction) => assert!(rt; seen_in(Ok(reaction)) == expected && reaction.stored),
-            Err(_) => assert!(rt; false),
-        }
+        let reaction = replica.recover(&mut storage, 0)?;
+        assert!(rt; seen_in(Ok(reaction)) == expected && reaction.stored);
         assert!(rt; replica.status == then && replica.round == round && replica.heard.count() == 0);
         let raised = Page {
             incarnation: 5,
@@ -60,26 +50,26 @@ fn a_recovery_is_refused_in_order(rt: HostRuntime) -> Result<(), Fail> {
         incarnation: 9_998,
         ..page()
     };
+    let finishing = Seen::Updates(at(2, 0), 20, true);
     let table = [
-        (Status::Idle, last, 0, 0, 12),
-        (Status::Recovering, page(), 0, 1, 12),
-        (Status::Down, last, 0, 0, 16),
-        (Status::Down, last, 0, 1, 16),
-        (Status::Down, last_but_one, 0, 0, 17),
-        (Status::Down, last_but_one, 0, 1, 0),
-        (Status::Down, page(), 3, 1, 8),
+        (Status::Idle, last, 0, 0, Err(12)),
+        (Status::Recovering, page(), 0, 1, Err(12)),
+        (Status::Down, last, 0, 0, Err(16)),
+        (Status::Down, last, 0, 1, Err(16)),
+        (Status::Down, last_but_one, 0, 0, Err(17)),
+        (Status::Down, last_but_one, 0, 1, Ok(finishing)),
+        (Status::Down, page(), 3, 1, Err(8)),
     ];
-    for (status, held, own, stores, refusal) in table {
+    for (status, held, own, stores, expected) in table {
         let mut storage = storage_with(rt.alloc(), held, stores)?;
         let mut replica = replica_in(status, &[1]);
-        match replica.recover(&mut storage, own) {
-            Ok(_) => assert_eq!(rt; 0, refusal),
-            Err(why) => {
-                assert_eq!(rt; why.number(), refusal);
-                assert!(rt; replica.status == status && replica.heard.count() == 1);
-                assert_eq!(rt; storage.page(0), Ok(held));
-                assert_eq!(rt; storage.stores_left(0), Ok(stores));
-            }
+        let answer = replica.recover(&mut storage, own);
+        let found = answer.map(|reaction| seen_in(Ok(reaction)));
+        assert_eq!(rt; found.map_err(|why| why.number()), expected);
+        if expected.is_err() {
+            assert!(rt; replica.status == status && replica.heard.count() == 1);
+            assert_eq!(rt; storage.page(0), Ok(held));
+            assert_eq!(rt; storage.stores_left(0), Ok(stores));
         }
     }
     Ok(())
@@ -88,14 +78,12 @@ fn a_recovery_is_refused_in_order(rt: HostRuntime) -> Result<(), Fail> {
 #[test]
 fn a_refused_store_says_its_task(rt: HostRuntime) -> Result<(), Fail> {
     let mut storage = storage_with(rt.alloc(), page(), 0)?;
-    match Replica::new().recover(&mut storage, 0) {
-        Err(ReplicaRefusal::Failed(fault)) => {
-            assert_eq!(rt; fault.task, Some(Task::Recovering));
-            assert_eq!(rt; fault.number(), 17);
-            assert_eq!(rt; fault.layer(), 0);
-            assert_eq!(rt; fault.replica(), 0);
-        }
-        _ => assert!(rt; false),
-    }
+    let Err(ReplicaRefusal::Failed(fault)) = Replica::new().recover(&mut storage, 0) else {
+        return Err(Fail::new("storage did not refuse"));
+    };
+    assert_eq!(rt; fault.task, Some(Task::Recovering));
+    assert_eq!(rt; fault.number(), 17);
+    assert_eq!(rt; fault.layer(), 0);
+    assert_eq!(rt; fault.replica(), 0);
     Ok(())
 }

@@ -72,7 +72,7 @@ pub fn message(kind: MessageKind, sender: u32, timestamp: Timestamp, code: u64) 
     }
 }
 
-// What an event at a replica brought about.
+// What an event at a replica brought about. Only what the tables name, and neither ticket nor receiver.
 #[derive(Clone, Copy, PartialEq, Eq, Debug)]
 pub enum Seen {
     Nothing,

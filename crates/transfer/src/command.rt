@@ -1,7 +1,7 @@
 // What the words of the command line ask for.
 ghost use Rattle.std.specs.Prelude.{◌≡◌, map, string_bytes};
 ghost use Rattle.std.specs.Option.{option_map};
-ghost use Rattle.transfer.specs.Commands.{blank_order, file_order, kind_in, number_in, order_in, order_of};
+ghost use Rattle.transfer.specs.Commands.{blank_order, file_order, kind_in, order_in, order_of};
 
 use storage::Kind;
 
@@ -35,7 +35,7 @@ pub fn command_of(words: &[String]) -> Option<Command<'_>>
     }
 }
 
-// A command for a file that is there.
+// A command for a file that is there, if the verb is one.
 fn on_file<'a>(verb: &str, path: &'a str) -> Option<Command<'a>>
     ensures { option_map order_of result ≡ file_order verb.now path.now }
 {
@@ -46,7 +46,8 @@ fn on_file<'a>(verb: &str, path: &'a str) -> Option<Command<'a>>
     }
 }
 
-// The command for a file that is to be made.
+// The command for a file that is to be made, if the verb is that one. A number may have a plus in front.
+#[tactic(auto, using(crate::proofs::NumberReading::parsed))]
 fn blank<'a>(
     verb: &str,
     replicas: &str,
@@ -60,27 +61,11 @@ fn blank<'a>(
         return None;
     }
     Some(Command::Blank {
-        replicas: replicas_in(replicas)?,
+        replicas: replicas.parse().ok()?,
         kind: kind_in(kind)?,
-        stores: stores_in(stores)?,
+        stores: stores.parse().ok()?,
         path,
     })
-}
-
-// A count of replicas, with a plus in front of it or not.
-#[tactic(auto, using(crate::proofs::NumberReading::parsed))]
-fn replicas_in(word: &str) -> Option<usize>
-    ensures { result ≡ number_in 64 word.now }
-{
-    word.parse().ok()
-}
-
-// A number of stores, likewise.
-#[tactic(auto, using(crate::proofs::NumberReading::parsed))]
-fn stores_in(word: &str) -> Option<u32>
-    ensures { result ≡ number_in 32 word.now }
-{
-    word.parse().ok()
 }
 
 // The kind of one digit.

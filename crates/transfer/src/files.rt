@@ -19,6 +19,7 @@ pub fn make<E: Entry>(
     stores: u32,
     path: &str,
 ) -> Result<(), Failure> {
+    // The length as storage has it, which tells it to no other crate.
     let size = 4 + 44 * replicas.min(15);
     let mut buffer = zeros(rt, size)?;
     if let Err(refusal) = write_blank::<E>(replicas, stores, &mut buffer) {
@@ -58,6 +59,7 @@ pub fn check(rt: &HostRuntime, path: &str) -> Result<(), Failure> {
 // Shows the pages of a file.
 pub fn show(rt: &HostRuntime, path: &str) -> Result<(), Failure> {
     let bytes = read(rt, path)?;
+    // A kind chooses a type parameter, so each use has an arm for each.
     match opened(&bytes) {
         Ok((_, Kind::Bid)) => show_as::<Bid>(rt, bytes),
         Ok((_, Kind::Span)) => show_as::<Span>(rt, bytes),

@@ -51,6 +51,7 @@ fn run(rt: &HostRuntime) -> Result<(), Failure> {
             stores,
             path,
         } => match kind {
+            // A kind chooses a type parameter, so each use has an arm for each.
             Kind::Bid => files::make::<Bid>(rt, replicas, stores, path),
             Kind::Span => files::make::<Span>(rt, replicas, stores, path),
         },

@@ -11,7 +11,7 @@ where
     InWords<E>: fmt::Display,
 {
     println!(rt; "office  stores left  spell        mark  entry")?;
-    // A range: the number of the replica is printed, and nothing is indexed.
+    // A range: the number is printed, and asked of the storage.
     for i in 0..storage.replicas() {
         match page_and_left(storage, i) {
             Ok((page, left)) => show_page::<E>(rt, i, &page, left)?,

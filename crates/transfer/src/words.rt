@@ -9,7 +9,8 @@ use storage::{Bid, Entry, OpenRefusal, Reason, Span, StorageFault, Timestamp, Wr
 #[derive(Clone, Copy)]
 pub struct InWords<T>(pub T);
 
-// A kind of entry, and what its entries are called.
+// A kind of entry, and what its entries are called. Not a bound of the trait: `where InWords<Self>: Display`
+// there would not be implied at its uses.
 pub trait Worded: Entry {
     const NAME: &'static str;
 }

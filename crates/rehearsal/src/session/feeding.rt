@@ -2,20 +2,18 @@
 ghost use Rattle.std.specs.Prelude.{◌≡◌, ℕ, List, IfOk, MatchResult};
 ghost use Rattle.rehearsal.specs.Rehearsals.{is_over, rehearsed, waiting};
 ghost use Rattle.rehearsal.specs.Sessions.{begun, ended, fed, input_lines, session_lines, session_of};
-ghost use Rattle.storage.specs.declared.stable.memory.MakeError.TheVariants.{NoMemory};
 
 use crate::command::LONGEST_LINE;
-use crate::rehearsal::Rehearsal;
+use crate::rehearsal::{NoMemory, Rehearsal};
 use crate::reply::Reply;
 use crate::session::Session;
-use std::alloc::{AllocError, Global};
-use storage::stable::memory::MakeError;
+use std::alloc::Global;
 
 impl Session {
     // A session in which nothing has been read. Whatever bytes are fed to it, what they print is what
     // the lines that they make print.
     #[tactic(auto, using(crate::proofs::LineCutting::lines_rehearsed))]
-    pub fn new(heap: Global) -> Result<Session, AllocError>
+    pub fn new(heap: Global) -> Result<Session, NoMemory>
         ensures made { IfOk result (λ s. session_of s ≡ begun) }
         ensures lines { (input : List ℕ) → session_lines begun input ≡ rehearsed waiting (input_lines input) }
     {
@@ -28,8 +26,8 @@ impl Session {
 
     // Takes the next byte; the reply, if it ends a line that has one. A refusal for want of memory
     // changes nothing.
-    pub fn feed(&mut self, heap: Global, byte: u8) -> Result<Option<Reply>, MakeError>
-        ensures { MatchResult result (λ said. fed (session_of self.old) byte ≡ (session_of self.new, said)) (λ e. (e ≡ NoMemory) × (session_of self.new ≡ session_of self.old)) }
+    pub fn feed(&mut self, heap: Global, byte: u8) -> Result<Option<Reply>, NoMemory>
+        ensures { MatchResult result (λ said. fed (session_of self.old) byte ≡ (session_of self.new, said)) (λ _. session_of self.new ≡ session_of self.old) }
     {
         if byte == b'\n' {
             let reply = self.rehearsal.line(heap, &self.line)?;
@@ -43,8 +41,8 @@ impl Session {
     }
 
     // The input is over: what follows the last line feed is a line too, and so is the lack of any.
-    pub fn end(self, heap: Global) -> Result<Option<Reply>, MakeError>
-        ensures { MatchResult result (λ said. said ≡ ended (session_of self)) (λ e. e ≡ NoMemory) }
+    pub fn end(self, heap: Global) -> Result<Option<Reply>, NoMemory>
+        ensures { IfOk result (λ said. said ≡ ended (session_of self)) }
     {
         let Session {
             mut rehearsal,
