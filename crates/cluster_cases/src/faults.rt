@@ -6,7 +6,7 @@ use replica::{Outcome, ReplicaRefusal, Task};
 use std::alloc::Global;
 use std::process::Abort;
 use std::test::Fail;
-use storage::{Majority, MemoryStorage, Page, QuotaStorage, Span, Storage, Timestamp};
+use storage::{Majority, MemoryStorage, Page, QuotaStorage, Span, Stamped, Storage, Timestamp};
 
 type Register = Cluster<QuotaStorage<MemoryStorage>, Majority, Span>;
 
@@ -74,11 +74,13 @@ fn an_intention_is_refused_by_the_layer_that_is_empty(rt: HostRuntime) -> Result
 // A page that holds an entry of this sequence.
 fn written(sequence: u32) -> Page {
     Page {
-        written: Timestamp {
-            sequence,
-            replica: 0,
+        written: Stamped {
+            timestamp: Timestamp {
+                sequence,
+                replica: 0,
+            },
+            code: 7,
         },
-        written_code: 7,
         ..Page::BLANK
     }
 }

@@ -11,7 +11,7 @@ pub fn outcome_of(answer: &Answer) -> (u8, u64) {
     match answer.outcome {
         Ok(None) => (b'-', 0),
         Ok(Some(Outcome::Written(when))) => (b'w', u64::from(when.sequence)),
-        Ok(Some(Outcome::Read(_, code))) => (b'r', code),
+        Ok(Some(Outcome::Read(read))) => (b'r', read.code),
         Ok(Some(Outcome::Recovered)) => (b'b', 0),
         Err(Failure::Fault(fault)) => (b'f', u64::from(fault.replica.number())),
         Err(Failure::Refused(refusal)) => (b'x', u64::from(refusal.number())),

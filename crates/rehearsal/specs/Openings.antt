@@ -9,9 +9,9 @@ use Rattle.storage.specs.Memories.{count_fits}
 use Rattle.storage.specs.declared.entry.kind.Kind.{Kind}
 use Rattle.storage.specs.declared.entry.kind.NoSuchKind.{NoSuchKind}
 
-abbrev pub of_kind : (n : ℕ) → count_fits n ≡ true → Result Kind NoSuchKind → ℕ → Option Opening
-of_kind n fits (Ok k) stores = Some (record { replicas = n; kind = k; stores = stores; fits = fits })
-of_kind n fits (Err e) stores = None
+abbrev pub opening_with : (n : ℕ) → count_fits n ≡ true → Result Kind NoSuchKind → ℕ → Option Opening
+opening_with n fits (Ok k) stores = Some (record { replicas = n; kind = k; stores = stores; fits = fits })
+opening_with n fits (Err e) stores = None
 
 -- what `make` gives where the test holds, and nothing elsewhere
 abbrev pub where_true : {X : Type 0} (t : Bool) → (t ≡ true → Option X) → Option X
@@ -20,7 +20,7 @@ where_true false make = None
 
 -- 1 to 15 replicas, the number of a kind, stores below 2^32
 abbrev pub within_range : ℕ → ℕ → ℕ → Option Opening
-within_range n kind stores = where_true (count_fits n) (λ fits. cond (nat_lt stores (2 ^ 32)) (of_kind n fits (kind_of kind) stores) None)
+within_range n kind stores = where_true (count_fits n) (λ fits. cond (nat_lt stores (2 ^ 32)) (opening_with n fits (kind_of kind) stores) None)
 
 -- "n kind stores"
 abbrev pub parted : List ℕ → Option Opening

@@ -14,7 +14,7 @@ use Rattle.replica.specs.declared.reaction.Outcome.TheVariants.{Written, Read, R
 abbrev pub outcome_text : Result (Option Outcome) Failure → List ℕ
 outcome_text (Ok None) = codes "-"
 outcome_text (Ok (Some (Written t))) = codes "w" ++ decimal t.sequence
-outcome_text (Ok (Some (Read t c))) = codes "r" ++ decimal c
+outcome_text (Ok (Some (Read w))) = codes "r" ++ decimal w.code
 outcome_text (Ok (Some Recovered)) = codes "b"
 outcome_text (Err (Fault f)) = codes "f" ++ decimal (fault_number f.replica)
 outcome_text (Err (Refused r)) = codes "x" ++ decimal (number_of r)

@@ -26,7 +26,7 @@ impl fmt::Display for Printed {
         match self.0 {
             Ok(None) => f.write_str("-"),
             Ok(Some(Outcome::Written(when))) => write!(f, "w{}", when.sequence),
-            Ok(Some(Outcome::Read(_, code))) => write!(f, "r{code}"),
+            Ok(Some(Outcome::Read(read))) => write!(f, "r{}", read.code),
             Ok(Some(Outcome::Recovered)) => f.write_str("b"),
             Err(Failure::Fault(fault)) => write!(f, "f{}", fault.replica.number()),
             Err(Failure::Refused(refusal)) => write!(f, "x{}", refusal.number()),

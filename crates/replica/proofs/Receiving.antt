@@ -1,5 +1,5 @@
 -- A message is received by a step, and by what follows it. Assumes nothing.
-use Rattle.std.proofs.Common.{◌≡◌, ℕ, Bool, true, false, cond, ltb, Ok, Err, arith}
+use Rattle.std.proofs.Common.{◌≡◌, ℕ, Bool, true, false, cond, ltb, Ok, Err}
 use Rattle.replica.specs.Effects.{Place}
 use Rattle.replica.specs.Receipts.{followed, reacting, received}
 use Rattle.replica.specs.Reactions.{nothing}

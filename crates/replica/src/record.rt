@@ -30,12 +30,7 @@ pub struct Replica {
 
 impl Replica {
     // A replica of this status in a new round, in which nobody is heard.
-    pub(crate) fn opening(
-        status: Status,
-        round: u32,
-        best: Stamped,
-        write_code: u64,
-    ) -> Replica
+    pub(crate) fn opening(status: Status, round: u32, best: Stamped, write_code: u64) -> Replica
         ensures { result ≡ opened status round best write_code }
     {
         Replica {

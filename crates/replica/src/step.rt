@@ -36,7 +36,8 @@ impl Replica {
             (Status::Recovering, MessageKind::Query | MessageKind::Update)
                 if message.sender != message.receiver => { Step::Ignore }
             (_, MessageKind::Query) => Step::Report,
-            (_, MessageKind::Update) if message.content.timestamp.is_later(page.written.timestamp) => Step::Keep,
+            (_, MessageKind::Update)
+                if message.content.timestamp.is_later(page.written.timestamp) => Step::Keep,
             (_, MessageKind::Update) => Step::Acknowledge,
             (Status::QueryingToWrite | Status::QueryingToRead, MessageKind::Report)
                 if self.expects(page, message) => {

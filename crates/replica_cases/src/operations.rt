@@ -1,7 +1,7 @@
 // Writes, reads, resends and crashes in each status, and at the last rounds.
 use crate::scene::{INCARNATION, ROUND, at, replica_in, site};
 use replica::{Message, MessageKind, Replica, Status, Ticket};
-use storage::Timestamp;
+use storage::{Stamped, Timestamp};
 
 // A message that replica 0 sends to all in this round.
 fn to_all(kind: MessageKind, round: u32, timestamp: Timestamp, code: u64) -> Message {
@@ -13,8 +13,7 @@ fn to_all(kind: MessageKind, round: u32, timestamp: Timestamp, code: u64) -> Mes
             incarnation: INCARNATION,
             round,
         },
-        timestamp,
-        code,
+        content: Stamped { timestamp, code },
     }
 }
 
@@ -59,7 +58,7 @@ fn a_new_round_asks_all(rt: HostRuntime) {
     assert!(rt; reader.status == Status::QueryingToRead);
     assert!(rt; writer.round == ROUND + 1 && reader.round == ROUND + 1);
     assert!(rt; writer.heard.count() == 0 && reader.heard.count() == 0);
-    assert!(rt; writer.best == Timestamp::BLANK && reader.best == Timestamp::BLANK);
+    assert!(rt; writer.best == Stamped::BLANK && reader.best == Stamped::BLANK);
 }
 
 #[test]
@@ -118,7 +117,7 @@ fn a_crash_forgets_all(rt: HostRuntime) {
         assert!(rt; replica.status == Status::Down);
         if expected.is_ok() {
             assert!(rt; replica.round == 0 && replica.heard.count() == 0);
-            assert!(rt; replica.best == Timestamp::BLANK && replica.write_code == 0);
+            assert!(rt; replica.best == Stamped::BLANK && replica.write_code == 0);
         }
     }
     assert!(rt; Replica::new().status == Status::Down);

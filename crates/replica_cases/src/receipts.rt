@@ -175,9 +175,9 @@ fn best_is_the_latest(rt: HostRuntime) -> Result<(), Fail> {
     Ok(())
 }
 
-// No store left: the fault, and what becomes of the operation.
+// Faults where no store is left, and what becomes of the operation.
 #[test]
-fn no_store_left(rt: HostRuntime) -> Result<(), Fail> {
+fn faults(rt: HostRuntime) -> Result<(), Fail> {
     let update = message(MessageKind::Update, 2, at(6, 2), 70);
     let report = message(MessageKind::Report, 2, at(4, 1), 40);
     let keeping = Seen::Fault(17, Some(Task::KeepingUpdate));
@@ -205,7 +205,7 @@ fn no_store_left(rt: HostRuntime) -> Result<(), Fail> {
     Ok(())
 }
 
-// No sequence left, or one.
+// Faults where no sequence is left, and none where one is.
 #[test]
 fn no_sequence_left(rt: HostRuntime) -> Result<(), Fail> {
     let last = message(MessageKind::Report, 2, at(999_999, 1), 40);

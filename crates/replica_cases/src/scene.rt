@@ -5,7 +5,7 @@ use replica::{
 };
 use std::alloc::Global;
 use storage::stable::memory::MakeError;
-use storage::{MemoryStorage, Page, ReplicaSet, Storage, Timestamp};
+use storage::{MemoryStorage, Page, ReplicaSet, Stamped, Storage, Timestamp};
 
 pub const INCARNATION: u32 = 4;
 
@@ -19,8 +19,10 @@ pub fn at(sequence: u32, replica: u32) -> Timestamp {
 pub fn page() -> Page {
     Page {
         incarnation: INCARNATION,
-        written: at(5, 1),
-        written_code: 50,
+        written: Stamped {
+            timestamp: at(5, 1),
+            code: 50,
+        },
         intended_sequence: 2,
         intended_code: 20,
     }
@@ -51,8 +53,10 @@ pub fn replica_in(status: Status, heard: &[usize]) -> Replica {
         status,
         round: ROUND,
         heard: set,
-        best: at(3, 2),
-        best_code: 30,
+        best: Stamped {
+            timestamp: at(3, 2),
+            code: 30,
+        },
         write_code: 60,
     }
 }
@@ -67,8 +71,7 @@ pub fn message(kind: MessageKind, sender: u32, timestamp: Timestamp, code: u64) 
             incarnation: INCARNATION,
             round: ROUND,
         },
-        timestamp,
-        code,
+        content: Stamped { timestamp, code },
     }
 }
 
@@ -95,12 +98,16 @@ pub fn seen_in(answer: Result<Reaction, ReplicaFault>) -> Seen {
             None => match reaction.outcome {
                 None => Seen::Nothing,
                 Some(Outcome::Written(when)) => Seen::Written(when),
-                Some(Outcome::Read(when, code)) => Seen::Read(when, code),
+                Some(Outcome::Read(read)) => Seen::Read(read.timestamp, read.code),
                 Some(Outcome::Recovered) => Seen::Recovered,
             },
-            Some(Sending::One(m)) => Seen::Replied(m.kind, m.timestamp, m.code, reaction.stored),
+            Some(Sending::One(m)) => {
+                Seen::Replied(m.kind, m.content.timestamp, m.content.code, reaction.stored)
+            }
             Some(Sending::All(m)) => match m.kind {
-                MessageKind::Update => Seen::Updates(m.timestamp, m.code, reaction.stored),
+                MessageKind::Update => {
+                    Seen::Updates(m.content.timestamp, m.content.code, reaction.stored)
+                }
                 _ => Seen::Other,
             },
         },

@@ -13,8 +13,7 @@ offer_or_open cents buyer = unwrap_or (offer_of (price_of cents) (buyer_of buyer
 abbrev pub with_written : Page → ℕ → ℕ → ℕ → Page
 with_written p sequence replica code = record {
   incarnation = p.incarnation;
-  written = record { sequence = sequence; replica = replica };
-  written_code = code;
+  written = record { timestamp = record { sequence = sequence; replica = replica }; code = code };
   intended_sequence = p.intended_sequence;
   intended_code = p.intended_code;
 }

@@ -27,10 +27,10 @@ where
     InWords<E>: fmt::Display,
 {
     let incarnation = page.incarnation;
-    let sequence = page.written.sequence;
-    let replica = page.written.replica;
+    let sequence = page.written.timestamp.sequence;
+    let replica = page.written.timestamp.replica;
     print!(rt; "{i:>6}  {left:>11}  {incarnation:>5}  {sequence:>7}.{replica:<2}  ")?;
-    print_entry::<E>(rt, page.written_code)?;
+    print_entry::<E>(rt, page.written.code)?;
     if page.intended_sequence > 0 {
         let intended = page.intended_sequence;
         print!(rt; "; intends {intended}.{i} ")?;

@@ -56,11 +56,11 @@ fn store_bid<S: Storage>(storage: &mut S, sequence: u32, bid: &Bid) -> Result<()
     ensures pages { S.page storage.new ≡ (if is_ok result then updated (S.page storage.old) 1 (with_written (S.page storage.old 1) sequence 1 (bid_code bid.now)) else S.page storage.old) }
 {
     let mut page = storage.page(REPLICA as usize)?;
-    page.written = Timestamp {
+    page.written.timestamp = Timestamp {
         sequence,
         replica: REPLICA,
     };
-    page.written_code = bid.code();
+    page.written.code = bid.code();
     storage.store(REPLICA as usize, page)
 }
 
@@ -68,8 +68,8 @@ fn store_bid<S: Storage>(storage: &mut S, sequence: u32, bid: &Bid) -> Result<()
 fn read_back<S: Storage>(rt: &HostRuntime, storage: &S) -> io::Result<()> {
     match page_and_left(storage, REPLICA as usize) {
         Ok((page, left)) => {
-            let written = InWords(page.written);
-            match Bid::decode(page.written_code) {
+            let written = InWords(page.written.timestamp);
+            match Bid::decode(page.written.code) {
                 Some(bid) => println!(rt;
                     "  Read back: mark {written}, {}; stores left {left}.",
                     InWords(bid)

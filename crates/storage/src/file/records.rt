@@ -41,8 +41,16 @@ pub(crate) fn put_record(bytes: &mut [u8], k: usize, cell: Cell)
 {
     put(bytes, k, &cell.left.to_le_bytes());
     put(bytes, k + 4, &cell.page.incarnation.to_le_bytes());
-    put(bytes, k + 8, &cell.page.written.timestamp.sequence.to_le_bytes());
-    put(bytes, k + 12, &cell.page.written.timestamp.replica.to_le_bytes());
+    put(
+        bytes,
+        k + 8,
+        &cell.page.written.timestamp.sequence.to_le_bytes(),
+    );
+    put(
+        bytes,
+        k + 12,
+        &cell.page.written.timestamp.replica.to_le_bytes(),
+    );
     put(bytes, k + 16, &cell.page.written.code.to_le_bytes());
     put(bytes, k + 24, &cell.page.intended_sequence.to_le_bytes());
     put(bytes, k + 28, &cell.page.intended_code.to_le_bytes());
