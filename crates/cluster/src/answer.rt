@@ -36,7 +36,7 @@ pub struct Answer {
     // messages that found room in transit, and that did not
     pub sent: usize,
     pub dropped: usize,
-    // pages stored: 0 or 1
+    // pages stored, 0 or 1: a number, by which the stores left fall
     pub stored: usize,
 }
 

@@ -6,7 +6,7 @@ use storage::Kind;
 
 pub mod reading;
 
-#[derive(Clone, Copy)]
+#[derive(Clone, Copy, PartialEq, Eq, Debug)]
 pub struct Opening {
     pub replicas: usize,
     pub kind: Kind,

@@ -7,7 +7,7 @@ use replica::Outcome;
 use std::fmt;
 
 // Not an option of an answer: what is not understood is answered too, and no reply is `None` already.
-#[derive(Clone, Copy)]
+#[derive(Clone, Copy, PartialEq, Eq, Debug)]
 pub enum Reply {
     // the line asks for no event
     NotUnderstood,

@@ -15,6 +15,8 @@ pub enum Status {
     Recovering,
 }
 
+// The status stands beside the fields, and no variant holds them: what a finished operation leaves of them is
+// promised too.
 #[derive(Clone, Copy, PartialEq, Eq, Debug)]
 pub struct Replica {
     pub status: Status,

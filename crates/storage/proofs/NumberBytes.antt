@@ -25,6 +25,7 @@ number_is (b ∷ bs) (suc k) l =
     let e = number_is bs k (omega arith) in
     first_apart (λ i. byte_worth i (get_or (b ∷ bs) i 0)) k ∙ ap (λ m. b + m) (one_higher (λ i. get_or bs i 0) k ∙ ap (λ m. m * 256) e)
 
+-- of 4 and of 8 bytes: the library proves its two for each width alone
 pub number_back_4 : (n : ℕ) → n < 2 ^ 32 → number_of (bytes_of 4 n) ≡ n
 number_back_4 n h = sym (number_is (bytes_of 4 n) 3 refl) ∙ from_le_bytes-to_le_bytes_4 n h
 

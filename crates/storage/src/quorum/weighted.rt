@@ -6,7 +6,7 @@ pub mod making;
 
 // Past the replicas the weights are 0. The row is of fixed size, and no Vec: a rule is Copy, and
 // `new` takes no allocator.
-#[derive(Clone, Copy)]
+#[derive(Clone, Copy, PartialEq, Eq, Debug)]
 pub struct Weighted {
     weights: [u8; 15],
     replicas: usize,

@@ -11,7 +11,7 @@ use crate::stable::Storage;
 use std::alloc::{AllocError, Global};
 
 // A replica's place in the table.
-#[derive(Clone, Copy)]
+#[derive(Clone, Copy, PartialEq, Eq, Debug)]
 pub struct Cell {
     pub page: Page,
     pub left: u32,
