@@ -3,10 +3,6 @@ use Rattle.std.proofs.Common.{◌≡◌, ℕ, zero, suc, ◌+◌, ◌≤◌, Boo
 use Rattle.cluster.specs.Transits.{addressed, room_in, sent_to_all, with_sent}
 use Rattle.replica.specs.declared.message.Message.{Message}
 
--- one turn of a loop that sends to all
-pub sent_more : (n : ℕ) (ms now next : List Message) (m : Message) → now ≡ sent_to_all n ms m → next ≡ with_sent now (addressed m n) → next ≡ sent_to_all (n + 1) ms m
-sent_more n ms now next m p q = rw add-one (q ∙ ap (λ (l : List Message). with_sent l (addressed m n)) p)
-
 -- one message more at most
 pub one_more : (ms : List Message) (m : Message) → (length ms ≤ length (with_sent ms m)) × (length (with_sent ms m) ≤ length ms + 1)
 one_more ms m = go (room_in ms)

@@ -1,16 +1,7 @@
-use Rattle.std.proofs.Common.{refl, arith}
-use Rattle.cluster.proofs.Running.{run_answers, run_leads, runs_on}
+use Rattle.std.proofs.Common.{arith}
+use Rattle.cluster.proofs.Running.{run_leads}
 use Rattle.cluster.proofs.StaysFit.{runs_fit}
 use Rattle.cluster.proofs.cluster.Cluster.run.Goals as goal
 
-pub loop-k-preserved : goal.loop-k-preserved
-loop-k-preserved g c = runs_on _ _ _ _ _ _ _ _ _ _ _ _ _ c.loop-k.invariant (omega arith) (omega arith) refl c.act_at.ensures.after c.act_at.ensures.setup
-
-pub returns : goal.returns
-returns g c =
-    let leads = run_leads c.loop-k.invariant (omega arith) (omega arith) in
-    record {
-      cases = (omega arith, leads, run_answers c.loop-k.invariant (omega arith) (omega arith));
-      setup = c.loop-k.invariant.same;
-      fit = runs_fit _ _ _ _ c.args.events.now leads c.loop-k.invariant.same;
-    }
+pub returns-clause-fit : goal.returns-clause-fit
+returns-clause-fit g c = runs_fit _ _ _ _ c.args.events.now (run_leads c.loop-k.invariant (omega arith) (omega arith)) c.loop-k.invariant.same
