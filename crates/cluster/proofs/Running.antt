@@ -1,11 +1,10 @@
 -- How far a run has come. Assumes nothing.
-use Rattle.std.proofs.Common.{◌≡◌, ℕ, suc, ◌+◌, ◌<◌, ◌≤◌, List, [], ◌∷◌, ◌++◌, length, get_or, take, drop, set, sym, ap, ◌∙◌, add-one, arith, drop-cons, drop-drop, drop-set-lt}
-use Rattle.cluster.specs.Acts.{acted}
+use Rattle.std.proofs.Common.{◌≡◌, ℕ, ◌≤◌, List, ◌++◌, length, take, drop, sym, ap, ◌∙◌}
 use Rattle.cluster.specs.Runs.{answers_of, ran}
 use Rattle.cluster.specs.States.{Setup, State}
 use Rattle.cluster.specs.declared.answer.Answer.{Answer}
 use Rattle.cluster.specs.declared.event.Event.{Event}
-use Rattle.std.proofs.lemmas.List.{append_assoc, append-nil, drop_all, take-append-drop, take_more_set}
+use Rattle.std.proofs.lemmas.List.{drop_all}
 
 -- what the whole run gives is what was given, and what the rest gives from here
 pub record Running (u v : Setup) (s t : State) (es : List Event) (old new : List Answer) (k : ℕ) : Type 0 where

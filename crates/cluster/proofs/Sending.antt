@@ -1,5 +1,5 @@
 -- Sending to all, one after another. Assumes nothing.
-use Rattle.std.proofs.Common.{◌≡◌, ℕ, zero, suc, ◌+◌, ◌≤◌, Bool, true, false, cond, List, [], ◌∷◌, ◌++◌, length, ap, ◌∙◌, add-one, arith, length-append}
+use Rattle.std.proofs.Common.{ℕ, zero, suc, ◌+◌, ◌≤◌, Bool, true, false, cond, List, [], ◌∷◌, ◌++◌, length, arith, length-append}
 use Rattle.cluster.specs.Transits.{addressed, room_in, sent_to_all, with_sent}
 use Rattle.replica.specs.declared.message.Message.{Message}
 

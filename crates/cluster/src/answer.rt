@@ -5,7 +5,7 @@ ghost use Rattle.cluster.specs.Answers.{answered, failed, met, refused};
 use crate::refusal::Refusal;
 use replica::{Outcome, ReplicaFault};
 
-// A replica's fault, and where in a list of events it came: 0 for a single event.
+// A replica's fault, and where in a list of events it came: 0 for a single event, which is a list's first.
 #[derive(Clone, Copy, PartialEq, Eq, Debug)]
 pub struct ClusterFault {
     pub replica: ReplicaFault,
@@ -36,7 +36,7 @@ pub struct Answer {
     // messages that found room in transit, and that did not
     pub sent: usize,
     pub dropped: usize,
-    // pages stored, 0 or 1: a number, by which the stores left fall
+    // pages stored, 0 or 1: a count, as those above are, which a law adds to the stores left
     pub stored: usize,
 }
 

@@ -1,4 +1,4 @@
-// Whole runs, event by event and as a list.
+// A whole run, event by event.
 use crate::scene::register;
 use cluster::{Answer, Event, Failure};
 use replica::Outcome;

@@ -18,8 +18,8 @@ use std::io;
 use std::io::Read;
 use std::process::ExitCode;
 
-// Why the program ends with status 1: standard input or output failed, or there was no memory. The other
-// program has a type of its own: one program is no library for another.
+// Why the program ends with status 1: standard input or output failed, or there was no memory. `transfer`
+// has a type of its own: one program is no library for another.
 #[derive(Drop)]
 struct Failure;
 

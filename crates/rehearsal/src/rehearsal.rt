@@ -14,7 +14,8 @@ use std::alloc::{AllocError, Global};
 use storage::stable::memory::MakeError;
 use storage::{Bid, Entry, Kind, Majority, MemoryStorage, Quorum, Span, Storage};
 
-// There was no memory: all that can stand in the way of a line.
+// There was no memory: all that can stand in the way of a line. Not AllocError: a cluster that finds no memory
+// hands its parts back in place of one, and none is written by hand.
 #[derive(Clone, Copy, PartialEq, Eq, Debug)]
 pub struct NoMemory;
 
@@ -24,7 +25,8 @@ impl From<AllocError> for NoMemory {
     }
 }
 
-// What it means, `stage_of`, is a definition beside it: an enum can have no `impl Model` yet.
+// What it means, `stage_of`, is a definition beside it and no `impl Model`: it holds the functions of a setup, and
+// a view's value has to be data.
 #[derive(Drop)]
 pub enum Rehearsal {
     // the first line is awaited
@@ -43,6 +45,7 @@ fn reply_to<S: Storage, Q: Quorum, E: Entry>(register: &mut Cluster<S, Q, E>, li
         return Reply::NotUnderstood;
     };
     let answer = register.act(&event);
+    // 0 where the register refuses to say, which that of a first line never does
     let in_transit = register.in_transit().unwrap_or(0);
     Reply::Answered { answer, in_transit }
 }

@@ -6,8 +6,9 @@ use crate::rehearsal::Rehearsal;
 pub mod feeding;
 
 // The line that is being read is held as far as one byte past the longest, which tells that it is too
-// long. Room for it is made once. What it means, `session_of`, is a definition beside it: it holds the functions
-// of a setup, and what an `impl Model` gives must have a code, which no function has.
+// long. Room for it is made once. The allocator is given with each call and not kept. What a session means,
+// `session_of`, is a definition and no `impl Model`: it holds the functions of a setup, and a view's value has to
+// be data.
 #[derive(Drop)]
 pub struct Session {
     rehearsal: Rehearsal,

@@ -49,7 +49,7 @@ impl ReplicaFault {
         }
     }
 
-    // By a match: an enum with a variant that holds a value has no numbers of its own.
+    // By a match on the cause: an enum with a variant that holds a value has no numbers of its own.
     pub fn number(&self) -> u8
         ensures { result ≡ number_of self.now }
     {
@@ -59,7 +59,7 @@ impl ReplicaFault {
         }
     }
 
-    // The layer that refused.
+    // The layer that refused; 0 where no storage was asked, as for the storage that is called.
     pub fn layer(&self) -> u8
         ensures { result ≡ layer_of self.now }
     {

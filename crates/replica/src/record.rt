@@ -15,8 +15,8 @@ pub enum Status {
     Recovering,
 }
 
-// The status stands beside the fields, and no variant holds them: what a finished operation leaves of them is
-// promised too.
+// The values stand beside the status and in no variant: a caller may hand in a record of any fields, a narrower
+// type would refuse some, and a finished operation leaves round, heard and best.
 #[derive(Clone, Copy, PartialEq, Eq, Debug)]
 pub struct Replica {
     pub status: Status,
@@ -24,7 +24,7 @@ pub struct Replica {
     pub round: u32,
     // who has responded in this round
     pub heard: ReplicaSet,
-    // while querying what was reported with the greatest timestamp; while updating what is updated
+    // while querying, what was reported with the greatest timestamp; while updating, what all are updated with
     pub best: Stamped,
     // what is to be written
     pub write_code: u64,

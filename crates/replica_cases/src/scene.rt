@@ -87,7 +87,7 @@ pub enum Seen {
     Read(Timestamp, u64),
     Recovered,
     Fault(u8, Option<Task>),
-    // two things at once, or a message of the wrong sort
+    // a message to all that is no Update
     Other,
 }
 

@@ -8,7 +8,8 @@ pub mod price;
 pub mod span;
 
 pub trait Entry: Copy {
-    // The number of this kind, which no other kind has.
+    // The number of this kind, which no other kind has. A number and no `Kind`: whoever adds a kind brings a number
+    // of its own, and a file holds this byte.
     const KIND: u8;
 
     ghost KIND: { ℕ };

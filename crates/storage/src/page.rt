@@ -7,7 +7,7 @@ pub struct Page {
     pub incarnation: u32,
     // the newest entry that it has kept, and when that was written
     pub written: Stamped,
-    // The last write that it began itself; the replica of that timestamp is its own.
+    // The last write that it began itself; the replica of its timestamp is its own.
     // 0 where none is intended, and no Option: any 36 bytes of a file are a page, with a code
     // beside sequence 0 too, and go back as they came.
     pub intended_sequence: u32,

@@ -8,7 +8,7 @@ use storage::{
     Storage, Timestamp,
 };
 
-// How many replicas a file of bids has, or the number of the refusal.
+// How many replicas a file of bids has, or the number of the refusal: here and below tests keep their values.
 fn opened(bytes: &[u8]) -> Result<usize, u8> {
     open::<Bid>(bytes).map_err(|refusal| refusal.number())
 }

@@ -10,7 +10,8 @@ fn set_of(members: &[usize]) -> ReplicaSet {
     set
 }
 
-// Whether a rule takes a set for a quorum, or the number of the refusal where no rule was made.
+// Whether a rule takes a set for a quorum, or the number of the refusal where no rule was made: tests keep their
+// values.
 fn says<Q: Quorum + Copy>(made: Result<Q, QuorumRefusal>, members: &[usize]) -> Result<bool, u8> {
     let rule = made.map_err(|refusal| refusal.number())?;
     Ok(rule.is_quorum(&set_of(members)))

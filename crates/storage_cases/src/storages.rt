@@ -18,7 +18,7 @@ pub fn sample(incarnation: u32) -> Page {
     }
 }
 
-// The answer to a store, with the number, replica and layer of a fault in its place.
+// The answer to a store, with the number, replica and layer of a fault in its place: tests keep their values.
 pub fn fault_parts(answer: Result<(), StorageFault>) -> Result<(), (u8, usize, u8)> {
     answer.map_err(|fault| (fault.number(), fault.replica, fault.layer))
 }

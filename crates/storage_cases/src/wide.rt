@@ -30,7 +30,8 @@ impl WideStorage {
     }
 }
 
-// Three short bodies: a trait of cells under this one would be longer.
+// Three of the bodies are alike in each storage of cells: a trait under this one, with its clauses, would be
+// longer.
 impl Storage for WideStorage {
     ghost replicas = { λ _. 20 };
 

@@ -17,7 +17,7 @@ pub enum Command<'a> {
     Show(&'a str),
 }
 
-// The first word is the program's own name.
+// The first word is the program's own name. A function and no TryFrom: there is no error to name.
 pub fn command_of(words: &[String]) -> Option<Command<'_>>
     ensures { option_map order_of result ≡ order_in (map string_bytes words.now) }
 {
@@ -68,7 +68,7 @@ fn blank<'a>(
     })
 }
 
-// The kind of one digit.
+// The kind of one digit. By hand: `parse` would take a plus and zeros in front.
 fn kind_in(word: &str) -> Option<Kind>
     ensures { result ≡ kind_in word.now }
 {

@@ -19,7 +19,7 @@ pub fn make<E: Entry>(
     stores: u32,
     path: &str,
 ) -> Result<(), Failure> {
-    // The length as storage has it, which tells it to no other crate.
+    // The layout is the storage's own: a public length would be a new promise for one sum.
     let size = 4 + 44 * replicas.min(15);
     let mut buffer = zeros(rt, size)?;
     if let Err(refusal) = write_blank::<E>(replicas, stores, &mut buffer) {

@@ -1,10 +1,12 @@
 // The pages of a storage as a table, a line for each replica.
 ghost use Rattle.std.specs.Prelude.{◌≡◌};
+ghost use Rattle.storage.specs.Records.{records_with};
 ghost use Rattle.storage.specs.Storages.{answered};
 
 use crate::words::{InWords, Worded};
 use std::{fmt, io};
-use storage::{Page, Storage, StorageFault};
+use storage::stable::memory::Cell;
+use storage::{Storage, StorageFault};
 
 pub fn show_pages<E: Worded, S: Storage>(rt: &HostRuntime, storage: &S) -> io::Result<()>
 where
@@ -14,7 +16,7 @@ where
     // A range: the number is printed, and asked of the storage.
     for i in 0..storage.replicas() {
         match page_and_left(storage, i) {
-            Ok((page, left)) => show_page::<E>(rt, i, &page, left)?,
+            Ok(cell) => show_page::<E>(rt, i, &cell)?,
             Err(fault) => println!(rt; "refused: {}", InWords(fault))?,
         }
     }
@@ -22,10 +24,11 @@ where
 }
 
 // The line of replica i: what it has kept, and the write that it intends, if any.
-fn show_page<E: Worded>(rt: &HostRuntime, i: usize, page: &Page, left: u32) -> io::Result<()>
+fn show_page<E: Worded>(rt: &HostRuntime, i: usize, cell: &Cell) -> io::Result<()>
 where
     InWords<E>: fmt::Display,
 {
+    let Cell { page, left } = *cell;
     let incarnation = page.incarnation;
     let sequence = page.written.timestamp.sequence;
     let replica = page.written.timestamp.replica;
@@ -51,8 +54,11 @@ where
 }
 
 // The page of replica i and the stores that are left to it.
-pub fn page_and_left<S: Storage>(storage: &S, i: usize) -> Result<(Page, u32), StorageFault>
-    ensures { result ≡ answered (S.replicas storage.now) i (S.page storage.now i, S.left storage.now i) }
+pub fn page_and_left<S: Storage>(storage: &S, i: usize) -> Result<Cell, StorageFault>
+    ensures { result ≡ answered (S.replicas storage.now) i (records_with (S.page storage.now) (S.left storage.now) i) }
 {
-    Ok((storage.page(i)?, storage.stores_left(i)?))
+    Ok(Cell {
+        page: storage.page(i)?,
+        left: storage.stores_left(i)?,
+    })
 }

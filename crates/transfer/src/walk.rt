@@ -9,6 +9,7 @@ use crate::words::InWords;
 use std::io;
 use storage::file::opening::open;
 use storage::file::writing::write;
+use storage::stable::memory::Cell;
 use storage::{
     Bid, Buyer, Entry, FileStorage, MemoryStorage, Page, Price, QuotaStorage, Storage,
     StorageFault, Timestamp,
@@ -67,7 +68,7 @@ fn store_bid<S: Storage>(storage: &mut S, sequence: u32, bid: &Bid) -> Result<()
 // Prints what the replica has kept now.
 fn read_back<S: Storage>(rt: &HostRuntime, storage: &S) -> io::Result<()> {
     match page_and_left(storage, REPLICA as usize) {
-        Ok((page, left)) => {
+        Ok(Cell { page, left }) => {
             let written = InWords(page.written.timestamp);
             match Bid::decode(page.written.code) {
                 Some(bid) => println!(rt;

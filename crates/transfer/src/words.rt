@@ -1,4 +1,5 @@
-// Entries, timestamps and faults in words that a clerk can read.
+// Entries, timestamps, faults and refusals in words that a clerk can read. The numbers of refusals stand in the
+// words: to ask for each would be one more argument of each.
 ghost use Rattle.std.specs.Prelude.{Some};
 ghost use Rattle.transfer.specs.Words.{bid_words, fault_words, open_words, reason_words, span_words, timestamp_words, write_words};
 

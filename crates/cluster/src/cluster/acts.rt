@@ -11,9 +11,9 @@ use crate::refusal::Refusal;
 use replica::{Message, Reaction, Sending, Site};
 use storage::{Entry, Quorum, Storage};
 
-// A storage that is unfit may have any number of replicas, so no invariant of a cluster bounds it, and a struct
-// that borrowed the cluster could hold no ghost field beside that borrow: what follows the check of fitness
-// requires at most 15.
+// A storage that is unfit may have any number of replicas, so no invariant of a cluster bounds it: what follows
+// the check of fitness requires at most 15. A struct that borrowed the cluster would state it once, and then
+// each clause would have to say what the borrow ends as. `n` is given, since to ask for it wants that bound.
 impl<S: Storage, Q: Quorum, E: Entry> Cluster<S, Q, E> {
     // One event. A refused one changes nothing. Transit grows by what was sent less what was taken out,
     // the stores left fall by the stores made, and a fit cluster stays fit.

@@ -12,7 +12,7 @@ use crate::refusal::Refusal;
 use storage::{Entry, Quorum, Storage};
 
 impl<S: Storage, Q: Quorum, E: Entry> Cluster<S, Q, E> {
-    // Runs a list of events and fills an answer for each. Events after a refused one still run, and
+    // Runs a list of events and fills an answer for each. Answers are lent, so that no run wants memory. Events after a refused one still run, and
     // spare answers stay as they were. With fewer answers than events nothing runs. A fit cluster
     // stays fit.
     pub fn run(&mut self, events: &[Event], answers: &mut [Answer]) -> Result<(), Refusal>
@@ -23,8 +23,7 @@ impl<S: Storage, Q: Quorum, E: Entry> Cluster<S, Q, E> {
         if answers.len() < events.len() {
             return Err(Refusal::ShortAnswers);
         }
-        // By index, which is the event's place: of answers lent one by one beside the events a proof would know
-        // no more than how many they are.
+        // By index, which is the event's place: of a zip with `iter_mut` a proof knows no more than the length.
         for (k, event) in events.iter().enumerate() {
             answers[k] = self.act_at(event, k);
         }

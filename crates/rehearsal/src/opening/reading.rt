@@ -8,7 +8,7 @@ use crate::opening::Opening;
 use crate::part::split_at_space;
 use storage::Kind;
 
-// What the first line says, if it is one.
+// What the first line says, if it is one. A function and no TryFrom: there is no error to name.
 pub fn opening_of(line: &[u8]) -> Option<Opening>
     ensures { result ≡ opening_of line.now }
 {

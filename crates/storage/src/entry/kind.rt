@@ -23,7 +23,7 @@ impl TryFrom<u64> for Kind {
 
     fn try_from(number: u64) -> Result<Kind, NoSuchKind> {
         match number {
-            // The numbers of Bid::KIND and Span::KIND: the constant of a trait is no pattern.
+            // The numbers of Bid::KIND and Span::KIND, which are of 8 bits, and these of 64.
             1 => Ok(Kind::Bid),
             2 => Ok(Kind::Span),
             _ => Err(NoSuchKind(number)),

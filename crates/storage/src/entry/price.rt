@@ -3,9 +3,9 @@ ghost use Rattle.std.specs.Prelude.{◌≤◌};
 
 pub mod making;
 
-// Not one generic type with Buyer: their numbers are of two types. A trait that told a clause which
-// number a value of either is would be longer than the second struct, and a const parameter would
-// give both numbers one type.
+// Not one generic type with Buyer: their numbers are of two types. A trait by which a clause names
+// the number of either would be longer than the second struct, and a const parameter would give both
+// numbers one type.
 #[derive(Clone, Copy, PartialEq, Eq, Debug)]
 pub struct Price {
     pub value: u32,

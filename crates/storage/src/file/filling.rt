@@ -64,26 +64,27 @@ impl<S: Storage> Records for S {
     }
 }
 
-// The pairs of all replicas.
+// Writes the pairs of all replicas.
 fn put_pairs(bytes: &mut [u8], layout: Layout)
     requires { 4 + 8 * layout.count ≤ length bytes.old }
     ensures { bytes.new ≡ overwritten bytes.old 4 (pairs_bytes layout.count) }
 {
-    // A range: the number says what the pair holds and where it lies.
+    // A range: the number says what the pair holds and where it lies, and of chunks that are lent
+    // for writing a proof would know no more than the length.
     for i in 0..layout.count {
         put(bytes, 4 + 8 * i, &(layout.place(i) as u32).to_le_bytes());
         put(bytes, 8 + 8 * i, &36u32.to_le_bytes());
     }
 }
 
-// The records of all replicas.
+// Writes the records of all replicas.
 fn put_records<R: Records>(bytes: &mut [u8], layout: Layout, records: &R)
     requires count { layout.count ≡ R.count records.now }
     requires room { file_length layout.count ≤ length bytes.old }
     ensures after { bytes.new ≡ overwritten bytes.old (4 + 8 * layout.count) (records_bytes (R.cell records.now) layout.count) }
     ensures fits { (i : ℕ) → i < layout.count → Fit (R.cell records.now i) }
 {
-    // A range: the number says which record it is and where it lies.
+    // A range, as above.
     for i in 0..layout.count {
         put_record(bytes, layout.place(i), records.cell(i));
     }

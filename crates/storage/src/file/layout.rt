@@ -3,7 +3,8 @@ ghost use Rattle.std.specs.Prelude.{◌≡◌, ◌<◌, ◌≤◌, true, false, 
 ghost use Rattle.storage.specs.Files.{file_length, place};
 ghost use Rattle.storage.specs.Memories.{count_fits};
 
-// The parts of a file of so many replicas.
+// The parts of a file of so many replicas. The bytes are in no struct with it: some calls lend them to be read,
+// and some to be written.
 #[derive(Clone, Copy)]
 pub(crate) struct Layout {
     pub(crate) count: usize,

@@ -1,4 +1,5 @@
-// Bytes within bytes. A number's are its `to_le_bytes`, lowest first.
+// Bytes within bytes. A number's are its `to_le_bytes`, lowest first. A place in all bytes and no part of its
+// own, here and in records: what a file's clauses speak of are places in it.
 ghost use Rattle.std.specs.Prelude.{◌≡◌, ◌+◌, ◌≤◌, length};
 ghost use Rattle.storage.specs.ByteNumbers.{overwritten, part};
 

@@ -21,8 +21,8 @@ use crate::stable::memory::Cell;
 #[derive(Drop)]
 pub struct FileStorage {
     bytes: Vec<u8>,
-    // How many replicas it has: 0 is what `replicas` answers of bytes that are no file, and clauses
-    // name it: an Option would be unwrapped in each.
+    // How many replicas it has: 0 where the bytes are no file, as `replicas` answers. Clauses name
+    // this number, and would unwrap an Option in each.
     count: usize,
     ghost few: { count ≤ 15 },
     ghost room: { (0 < count → file_length count ≤ vec_len bytes) },
@@ -82,7 +82,8 @@ impl FileStorage {
     }
 }
 
-// Three short bodies: a trait of cells under this one would be longer.
+// Three of the bodies are alike in each storage of cells: a trait under this one, with its clauses, would be
+// longer.
 impl Storage for FileStorage {
     ghost replicas = { λ f. f.count };
 

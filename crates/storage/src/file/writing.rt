@@ -18,7 +18,7 @@ pub enum WriteRefusal {
 }
 
 impl WriteRefusal {
-    // A method and no conversion: it is the number that users know, as every refusal has one.
+    // A method, as before: callers name it, and a `From` beside it would say the same twice.
     pub fn number(self) -> u8
         ensures { result ≡ write_number self }
     {

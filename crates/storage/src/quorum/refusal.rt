@@ -12,7 +12,7 @@ pub enum QuorumRefusal {
 }
 
 impl QuorumRefusal {
-    // A method and no conversion: it is the number that users know, as every refusal has one.
+    // A method, as before: callers name it, and a `From` beside it would say the same twice.
     pub fn number(self) -> u8
         ensures { result ≡ refusal_number self }
     {
@@ -20,7 +20,8 @@ impl QuorumRefusal {
     }
 }
 
-// Refuses a number of replicas that is not 1 to 15.
+// Refuses a number of replicas that is not 1 to 15. Elsewhere the same test has another refusal; a type for the
+// number would be made and taken apart at each.
 pub(crate) fn check_count(replicas: usize) -> Result<(), QuorumRefusal>
     ensures { result ≡ (if count_fits replicas then Ok tt else Err QuorumRefusal.ReplicaCount) }
 {

@@ -53,7 +53,7 @@ pub enum MakeError {
 }
 
 impl MakeError {
-    // A method and no conversion: it is the number that users know, as every refusal has one.
+    // A method, as before: callers name it, and a `From` beside it would say the same twice.
     pub fn number(self) -> u8
         ensures { result ≡ made_number self }
     {
@@ -92,7 +92,8 @@ impl MemoryStorage {
     }
 }
 
-// Three short bodies: a trait of cells under this one would be longer.
+// Three of the bodies are alike in each storage of cells: a trait under this one, with its clauses, would be
+// longer.
 impl Storage for MemoryStorage {
     ghost replicas = { λ m. vec_len m.cells };
 

@@ -79,7 +79,7 @@ impl<S: Storage> Storage for QuotaStorage<S> {
         if i >= self.below.replicas() {
             return Err(StorageFault::new(Reason::NoSuchReplica, i));
         }
-        // Not Cell::stored: its allowance is its own count; the page goes below.
+        // Not Cell::stored: what is counted here is the allowance, and the page goes below.
         let left = number_at(&self.allowances, i)
             .checked_sub(1)
             .ok_or(StorageFault::new(Reason::NoStoresLeft, i))?;
