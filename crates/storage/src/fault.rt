@@ -19,8 +19,8 @@ pub struct StorageFault {
 }
 
 impl StorageFault {
-    // A method, as before: callers name it, and a `From` beside it would say the same twice. No trait has it
-    // for all refusals, since no function takes any refusal.
+    // A method and no conversion: callers name it, and a `From` beside it would say the same twice. No trait
+    // has it for all refusals, since no function takes any refusal.
     pub fn number(self) -> u8
         ensures { result ≡ fault_number self }
     {

@@ -18,7 +18,7 @@ pub enum WriteRefusal {
 }
 
 impl WriteRefusal {
-    // A method, as before: callers name it, and a `From` beside it would say the same twice.
+    // A method and no conversion: callers name it, and a `From` beside it would say the same twice.
     pub fn number(self) -> u8
         ensures { result ≡ write_number self }
     {

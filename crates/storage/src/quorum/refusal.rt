@@ -12,7 +12,7 @@ pub enum QuorumRefusal {
 }
 
 impl QuorumRefusal {
-    // A method, as before: callers name it, and a `From` beside it would say the same twice.
+    // A method and no conversion: callers name it, and a `From` beside it would say the same twice.
     pub fn number(self) -> u8
         ensures { result ≡ refusal_number self }
     {

@@ -53,7 +53,7 @@ pub enum MakeError {
 }
 
 impl MakeError {
-    // A method, as before: callers name it, and a `From` beside it would say the same twice.
+    // A method and no conversion: callers name it, and a `From` beside it would say the same twice.
     pub fn number(self) -> u8
         ensures { result ≡ made_number self }
     {
