@@ -56,7 +56,7 @@ fn rehearse(rt: &HostRuntime) -> Result<(), Failure> {
     say(rt, last)
 }
 
-// Reads what standard input has, and says how many bytes that were: 0 at its end.
+// Reads what standard input has, and says how many bytes that were, of which `read` fills a part: 0 at its end.
 fn read_some(rt: &HostRuntime, session: &mut Session) -> Result<usize, Failure> {
     let mut part = [0u8; 4096];
     let got = rt.stdin().read(&mut part)?;

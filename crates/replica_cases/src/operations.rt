@@ -3,7 +3,7 @@ use crate::scene::{INCARNATION, ROUND, at, replica_in, site};
 use replica::{Message, MessageKind, Replica, Status, Ticket};
 use storage::{Stamped, Timestamp};
 
-// A message that replica 0 sends to all in this round.
+// A message that replica 0 sends to all in this round: the scene's is to replica 0.
 fn to_all(kind: MessageKind, round: u32, timestamp: Timestamp, code: u64) -> Message {
     Message {
         kind,

@@ -339,6 +339,7 @@ fn random_page(seed: u64) -> Page {
     }
 }
 
+// For every number of replicas and for spans, where the pages above have known bytes.
 #[test]
 fn random_pages_there_and_back(rt: HostRuntime) -> Result<(), Fail> {
     let mut seed = 1;

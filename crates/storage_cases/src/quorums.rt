@@ -2,6 +2,7 @@
 use std::test::Fail;
 use storage::{Majority, Quorum, QuorumRefusal, ReplicaSet, Weighted, shared_replica};
 
+// The set of these members; the tests of replicas, in another crate, make theirs in place.
 fn set_of(members: &[usize]) -> ReplicaSet {
     let mut set = ReplicaSet::empty();
     for member in members {

@@ -1,6 +1,7 @@
 // What can be asked of a cluster; nothing changes. An unfit storage or quorum refuses every question.
-ghost use Rattle.std.specs.Prelude.{◌≡◌};
-ghost use Rattle.cluster.specs.Questions.{counted, message_at, newest_to, status_of};
+ghost use Rattle.std.specs.Prelude.{◌≡◌, Ok, Err, if◌then◌else◌, nat_lt};
+ghost use Rattle.cluster.specs.Questions.{asked, counted, message_at, newest_to, status_of};
+ghost use Rattle.cluster.specs.declared.refusal.Refusal.TheVariants.{NoSuchReplica};
 ghost use Rattle.cluster.specs.States.{setup_of, state_of};
 
 use crate::cluster::Cluster;
@@ -29,10 +30,7 @@ impl<S: Storage, Q: Quorum, E: Entry> Cluster<S, Q, E> {
     pub fn status(&self, i: usize) -> Result<Status, Refusal>
         ensures { result ≡ status_of (setup_of S.Storage Q.Quorum E.Entry self.now) (state_of S.Storage self.now) i }
     {
-        self.check_fitness()?;
-        if i >= self.storage.replicas() {
-            return Err(Refusal::NoSuchReplica);
-        }
+        self.check_replica(i)?;
         Ok(self.records[i].status)
     }
 
@@ -40,10 +38,18 @@ impl<S: Storage, Q: Quorum, E: Entry> Cluster<S, Q, E> {
     pub fn newest_to(&self, i: usize) -> Result<Option<Message>, Refusal>
         ensures { result ≡ newest_to (setup_of S.Storage Q.Quorum E.Entry self.now) (state_of S.Storage self.now) i }
     {
+        self.check_replica(i)?;
+        Ok(self.transit.newest_to(i))
+    }
+
+    // Refused where the cluster is unfit, or has no such replica.
+    fn check_replica(&self, i: usize) -> Result<(), Refusal>
+        ensures { result ≡ asked (setup_of S.Storage Q.Quorum E.Entry self.now) (state_of S.Storage self.now) (if nat_lt i (S.replicas self.now.storage) then Ok tt else Err NoSuchReplica) }
+    {
         self.check_fitness()?;
         if i >= self.storage.replicas() {
             return Err(Refusal::NoSuchReplica);
         }
-        Ok(self.transit.newest_to(i))
+        Ok(())
     }
 }

@@ -54,6 +54,7 @@ fn pair_fits(bytes: &[u8], layout: Layout, i: usize) -> bool
     requires inside { i < layout.count }
     ensures { result ≡ pair_fits bytes.now i }
 {
+    // the two places that `put_pairs` writes, each no more than a sum
     let offset = u32::from_le_bytes(bytes_at(bytes, 4 + 8 * i)) as usize;
     let size = u32::from_le_bytes(bytes_at(bytes, 8 + 8 * i));
     offset == layout.place(i) && size == 36
