@@ -45,6 +45,7 @@ fn fault_of(answer: &Answer) -> Result<ClusterFault, Fail> {
     }
 }
 
+// A failure always has a number, by which tests keep their values.
 fn number_of(failure: Failure) -> u8 {
     match failure {
         Failure::Fault(fault) => fault.replica.number(),

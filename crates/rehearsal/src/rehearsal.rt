@@ -93,7 +93,8 @@ impl Rehearsal {
     }
 }
 
-// The run that a first line opens, with a register of the kind that it asks for.
+// The run that a first line opens, with a register of the kind that it asks for. A kind chooses a type parameter,
+// so it has an arm for each.
 fn run_of(heap: Global, opening: &Opening) -> Result<Rehearsal, NoMemory>
     ensures { IfOk result (λ run. opened_by (Some opening.now) ≡ (stage_of run, None)) }
 {

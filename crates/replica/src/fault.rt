@@ -59,7 +59,8 @@ impl ReplicaFault {
         }
     }
 
-    // The layer that refused; 0 where no storage was asked, as for the storage that is called.
+    // The layer that refused; 0 where no storage was asked. No Option: every fault has had a layer, and one
+    // without would promise less.
     pub fn layer(&self) -> u8
         ensures { result ≡ layer_of self.now }
     {

@@ -128,7 +128,7 @@ fn refusals_in_order(rt: HostRuntime) {
     }
 }
 
-// The number that a change of the byte at this place is refused with.
+// The number that a change of the byte at this place is refused with: always a refusal's, and so no result.
 fn refused_for(at: usize, byte: u8) -> u8 {
     match at {
         0 if byte < 1 || byte > 15 => 2,

@@ -18,7 +18,8 @@ const USAGE: &str = "usage:
   transfer check FILE                  say whether it is a lot transfer file
   transfer show FILE                   show its pages";
 
-// Why the program ends with status 1; what is to be said has been said.
+// Why the program ends with status 1; what is to be said has been said. A type of its own: one program is no
+// library for another.
 #[derive(Drop)]
 pub struct Failure;
 

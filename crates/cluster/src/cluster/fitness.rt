@@ -13,6 +13,7 @@ impl<S: Storage, Q: Quorum, E: Entry> Cluster<S, Q, E> {
         ensures { result ≡ fitness (S.replicas self.now.storage) (Q.size self.now.quorum) (of_kind E.Entry) (S.page self.now.storage) }
     {
         let n = self.storage.replicas();
+        // asked here too, for another refusal
         if !(1..=15).contains(&n) || n != self.quorum.replicas() {
             return Err(Refusal::ReplicaCount);
         }

@@ -24,6 +24,7 @@ pub fn opening_of(line: &[u8]) -> Option<Opening>
 fn within_range(replicas: u64, kind: u64, stores: u64) -> Option<Opening>
     ensures { result ≡ within_range replicas kind stores }
 {
+    // asked here too, for want of an opening
     if !(1..=15).contains(&replicas) {
         return None;
     }
