@@ -5,6 +5,7 @@ ghost use Rattle.storage.specs.Kinds.{kind_number, kind_of};
 use crate::entry::Entry;
 use crate::entry::bid::Bid;
 use crate::entry::span::Span;
+use crate::file::opening::OpenRefusal;
 
 #[derive(Clone, Copy, PartialEq, Eq, Debug)]
 pub enum Kind {
@@ -15,6 +16,15 @@ pub enum Kind {
 // A number that no kind has.
 #[derive(Clone, Copy, PartialEq, Eq, Debug)]
 pub struct NoSuchKind(pub u64);
+
+impl NoSuchKind {
+    // The number that users know the refusal by: that of a file of another kind.
+    pub fn number(self) -> u8
+        ensures { result ≡ 3 }
+    {
+        OpenRefusal::Kind.number()
+    }
+}
 
 impl TryFrom<u64> for Kind {
     type Error = NoSuchKind;
