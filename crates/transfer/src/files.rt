@@ -98,9 +98,25 @@ fn read(rt: &HostRuntime, path: &str) -> Result<Vec<u8>, Failure> {
     })
 }
 
-// Reads a file to its end, or to one byte more than a transfer file may have.
+// Reads a file to its end, or to one byte more than a transfer file may have: each read asks for all that may
+// still come. Not `read_to_end`, which asks for less at once, so that a pipe in packets loses what does not fit,
+// and which reads on for ever where each read is interrupted.
 fn read_start(rt: &HostRuntime, path: &str) -> io::Result<Vec<u8>> {
+    let mut file = File::open(rt, path)?.take(MOST);
     let mut bytes = Vec::new(rt.alloc());
-    File::open(rt, path)?.take(MOST).read_to_end(&mut bytes)?;
+    // A count that no file reaches, since each read gives a byte at least.
+    for _ in 0..MOST {
+        if read_more(&mut file, &mut bytes)? == 0 {
+            break;
+        }
+    }
     Ok(bytes)
+}
+
+// Reads some bytes more, and says how many: 0 at the end.
+fn read_more<R: Read>(file: &mut R, bytes: &mut Vec<u8>) -> io::Result<usize> {
+    let mut part = [0u8; MOST as usize];
+    let got = file.read(&mut part)?;
+    bytes.extend_from_slice(&part[..got])?;
+    Ok(got)
 }
