@@ -1,3 +1,3 @@
 pub mod LineCutting
 pub mod OpeningRange
-pub mod NumberReading
+pub mod DigitByDigit

@@ -1,12 +1,17 @@
-use Rattle.std.proofs.Common.{◌≡◌, sym, ◌∙◌, arith}
-use Rattle.std.proofs.lemmas.Grind.{common_steps}
-use Rattle.rehearsal.proofs.NumberReading.{no_text, parsed}
+use Rattle.std.proofs.Common.{sym, ◌∙◌, arith}
+use Rattle.rehearsal.proofs.DigitByDigit.{digit_at, digits_end}
 use Rattle.rehearsal.proofs.number.number.Goals as goal
 
-pub returns-in_err-ok : goal.returns-in_err-ok
-returns-in_err-ok c = c.from_residual.ensures ∙ sym (no_text c.args.digits.now (λ text. grind (arith, common_steps)))
+pub returns-in_err-value : goal.returns-in_err-value
+returns-in_err-value c =
+    let none = digit_at c.args.digits.now c.loop-digit.digit-index c.loop-digit.value (omega arith) (sym c.append.ensures ∙ c.in_err-value.was) in
+    c.from_residual.ensures ∙ sym (c.loop-digit.invariant.0 ∙ none)
+
+pub loop-digit-preserved : goal.loop-digit-preserved
+loop-digit-preserved c =
+    let more = digit_at c.args.digits.now c.loop-digit.digit-index c.loop-digit.value (omega arith) (sym c.append.ensures ∙ c.in_ok-value.was) in
+    (c.loop-digit.invariant.0 ∙ more.0, more.1)
 
 pub returns : goal.returns
 returns c =
-    let same : c.in_ok-ok.field-0.now ≡ c.args.digits.now = grind (arith, common_steps) in
-    c.ok-2.ensures.value ∙ parsed c.args.digits.now c.parse.result (rw same at c.parse.ensures.value.0) (λ plus. grind (arith, common_steps))
+    sym (c.loop-digit.invariant.0 ∙ digits_end c.args.digits.now c.loop-digit.digit-index c.loop-digit.value (omega arith) c.loop-digit.invariant.1)
