@@ -1,11 +1,12 @@
 -- What a set weighs, as a sum over the numbers from 0 up. Assumes nothing.
-use Rattle.std.proofs.Common.{◌≡◌, ℕ, zero, suc, ◌+◌, ◌*◌, ◌≤◌, Bool, true, false, cond, List, [], ◌∷◌, refl, length, map, sym, ap, ◌∙◌, add-one, arith, sum_by}
-use Rattle.std.specs.List.{filter, range_with_len, zip}
+use Rattle.std.proofs.Common.{◌≡◌, ℕ, zero, suc, ◌+◌, ◌*◌, ◌%◌, ◌^◌, ◌<◌, ◌≤◌, Bool, cond, List, [], ◌∷◌, refl, length, map, sym, ap, ◌∙◌, add-one, arith, sum_by, fold}
+use Rattle.std.specs.List.{range_with_len, zip}
+use Rattle.std.proofs.Math.Nat.{mod-eq_of_lt}
 use Rattle.std.proofs.lemmas.List.{map-id}
 use Rattle.std.proofs.lemmas.List.FromFn.{fill_by_all, get_or-range_with_len, length-range_with_len, sum_by-map-range_with_len_more}
 use Rattle.std.proofs.lemmas.List.Sums.{sum_by-cons}
 use Rattle.std.proofs.lemmas.Slice.Zip.{get_or-zip, length-zip}
-use Rattle.storage.specs.Weights.{weigh, weight_at}
+use Rattle.storage.specs.Weights.{one, all, weigh, weight_at}
 
 -- what f holds weighs the sum of the weights from 0 up, at 0 for a replica that it does not hold
 pub weigh_sum : (w : ℕ → ℕ) (f : ℕ → Bool) (n : ℕ) → sum_by (λ k. cond (f k) (w k) 0) (range_with_len 0 n) ≡ weigh w f n
@@ -13,15 +14,6 @@ weigh_sum w f zero = refl
 weigh_sum w f (suc n) =
     let more = simp add-one at (simp map-id at (sum_by-map-range_with_len_more (λ k. cond (f k) (w k) 0) (λ k. k) 0 n n (omega arith))) in
     more ∙ ap (λ t. t + cond (f n) (w n) 0) (weigh_sum w f n)
-
--- a sum over what a filter keeps takes the rest as 0
-sum_by_filter : {X : Type 0} (w : X → ℕ) (f : X → Bool) (xs : List X) → sum_by w (filter f xs) ≡ sum_by (λ k. cond (f k) (w k) 0) xs
-sum_by_filter w f [] = refl
-sum_by_filter w f (x ∷ xs) = one_more (f x) (sum_by_filter w f xs) ∙ sym (sum_by-cons (λ k. cond (f k) (w k) 0) x xs)
-  where
-    one_more : (b : Bool) → sum_by w (filter f xs) ≡ sum_by (λ k. cond (f k) (w k) 0) xs → sum_by w (cond b (x ∷ filter f xs) (filter f xs)) ≡ cond b (w x) 0 + sum_by (λ k. cond (f k) (w k) 0) xs
-    one_more true h = sum_by-cons w x (filter f xs) ∙ ap (λ t. w x + t) h
-    one_more false h = omega arith
 
 -- a sum over what a map gives is the sum of what it gives of each
 sum_by_map : {X Y : Type 0} (w : Y → ℕ) (g : X → Y) (xs : List X) → sum_by w (map g xs) ≡ sum_by (λ x. w (g x)) xs
@@ -34,11 +26,10 @@ zip_range ws n l = fill_by_all {X = ℕ × ℕ} (λ k. (weight_at ws k, k)) (zip
     (length-zip ws (range_with_len 0 n) ∙ grind (arith, length-range_with_len 0 n))
     (λ k m. get_or-zip ws (range_with_len 0 n) k (0, 0) (omega arith) (omega (arith, length-range_with_len 0 n)) ∙ ap (λ j. (weight_at ws k, j)) (get_or-range_with_len 0 n k 0 m ∙ omega arith))
 
--- what a chain gives that puts each weight beside its replica, keeps the members and sums
-pub weigh_zipped : (ws : List ℕ) (f : ℕ → Bool) (n : ℕ) → n ≤ length ws → sum_by (λ (p : ℕ × ℕ). p.0) (filter (λ (p : ℕ × ℕ). f p.1) (zip ws (range_with_len 0 n))) ≡ weigh (weight_at ws) f n
+-- what a chain gives that puts each weight beside its replica, takes it at 0 where it is no member, and sums
+pub weigh_zipped : (ws : List ℕ) (f : ℕ → Bool) (n : ℕ) → n ≤ length ws → sum_by (λ (p : ℕ × ℕ). cond (f p.1) p.0 0) (zip ws (range_with_len 0 n)) ≡ weigh (weight_at ws) f n
 weigh_zipped ws f n l =
-    sum_by_filter (λ (p : ℕ × ℕ). p.0) (λ (p : ℕ × ℕ). f p.1) (zip ws (range_with_len 0 n))
-    ∙ ap (sum_by (λ (p : ℕ × ℕ). cond (f p.1) p.0 0)) (zip_range ws n l)
+    ap (sum_by (λ (p : ℕ × ℕ). cond (f p.1) p.0 0)) (zip_range ws n l)
     ∙ sum_by_map (λ (p : ℕ × ℕ). cond (f p.1) p.0 0) (λ k. (weight_at ws k, k)) (range_with_len 0 n)
     ∙ weigh_sum (weight_at ws) f n
 
@@ -49,3 +40,38 @@ weigh_most w f h (suc n) = one_more (f n) (w n) (weigh w f n) (weigh_most w f h 
   where
     one_more : (b : Bool) (x t : ℕ) → t ≤ 255 * n → x ≤ 255 → t + cond b x 0 ≤ 255 * suc n
     one_more b x t l m = grind arith
+
+-- n replicas are n at most
+pub weigh_few : (f : ℕ → Bool) (n : ℕ) → weigh one f n ≤ n
+weigh_few f zero = omega arith
+weigh_few f (suc n) = one_more (f n) (weigh one f n) (weigh_few f n)
+  where
+    one_more : (b : Bool) (t : ℕ) → t ≤ n → t + cond b 1 0 ≤ suc n
+    one_more b t l = grind arith
+
+-- equal parts make equal pairs
+both : {a b c d : ℕ} → a ≡ b → c ≡ d → ◌≡◌ {A = ℕ × ℕ} (a, c) (b, d)
+both j k = cc
+
+-- what a fold adds at each replica, at 32 bits: its weight, and that if f holds it
+abbrev pub weights_with : (ℕ → Bool) → ℕ × ℕ → ℕ × ℕ → ℕ × ℕ
+weights_with f a p = ((a.0 + p.0) % 2 ^ 32, (a.1 + cond (f p.1) p.0 0) % 2 ^ 32)
+
+-- where both sums have room, the fold gives them
+folded_sums : (f : ℕ → Bool) (ps : List (ℕ × ℕ)) (t h : ℕ) → t + sum_by (λ (p : ℕ × ℕ). p.0) ps < 2 ^ 32 → h + sum_by (λ (p : ℕ × ℕ). cond (f p.1) p.0 0) ps < 2 ^ 32
+    → fold (weights_with f) (t, h) ps ≡ (t + sum_by (λ (p : ℕ × ℕ). p.0) ps, h + sum_by (λ (p : ℕ × ℕ). cond (f p.1) p.0 0) ps)
+folded_sums f [] t h l m = grind arith
+folded_sums f (p ∷ ps) t h l m =
+    let first = sum_by-cons (λ (q : ℕ × ℕ). q.0) p ps in
+    let second = sum_by-cons (λ (q : ℕ × ℕ). cond (f q.1) q.0 0) p ps in
+    ap (λ a. fold (weights_with f) a ps) (both (mod-eq_of_lt (omega (arith, first, l))) (mod-eq_of_lt (omega (arith, second, m))))
+    ∙ folded_sums f ps (t + p.0) (h + cond (f p.1) p.0 0) (omega (arith, first, l)) (omega (arith, second, m))
+    ∙ both (omega (arith, first)) (omega (arith, second))
+
+-- and so, of bytes beside the numbers from 0 up, what all replicas weigh and what f holds
+pub folded_weights : (ws : List ℕ) (f : ℕ → Bool) (n : ℕ) → n ≤ length ws → n ≤ 15 → ((k : ℕ) → weight_at ws k ≤ 255) → fold (weights_with f) (0, 0) (zip ws (range_with_len 0 n)) ≡ (weigh (weight_at ws) all n, weigh (weight_at ws) f n)
+folded_weights ws f n l few byte =
+    let total = weigh_zipped ws all n l in
+    let held = weigh_zipped ws f n l in
+    folded_sums f (zip ws (range_with_len 0 n)) 0 0 (omega (arith, total, weigh_most (weight_at ws) all byte n)) (omega (arith, held, weigh_most (weight_at ws) f byte n))
+    ∙ both (omega (arith, total)) (omega (arith, held))

@@ -1,7 +1,7 @@
 // Making a rule of weights, and what it answers.
-ghost use Rattle.std.specs.Prelude.{◌≡◌};
+ghost use Rattle.std.specs.Prelude.{◌≡◌, ◌+◌, ◌%◌, ◌^◌, cond};
 ghost use Rattle.storage.specs.Quorums.{weighted_of, weighted_enough};
-ghost use Rattle.storage.specs.Weights.{weigh, weight_at};
+ghost use Rattle.storage.specs.Weights.{weigh, all, weight_at};
 ghost use Rattle.storage.specs.ReplicaSets.{member};
 ghost use Rattle.storage.specs.Meeting.{heavy_laws};
 
@@ -9,6 +9,16 @@ use super::Weighted;
 use crate::quorum::Quorum;
 use crate::quorum::refusal::{QuorumRefusal, check_count};
 use crate::replica_set::ReplicaSet;
+
+// The weights of all replicas and of a set, with one more replica. The sums are taken modulo 2^32,
+// to be safe at any arguments: the weights of 15 replicas never get there.
+fn with_weight(total: u32, held: u32, weight: u8, member: bool) -> (u32, u32)
+    ensures { result ≡ ((total + weight) % 2 ^ 32, (held + cond member weight 0) % 2 ^ 32) }
+{
+    let weight = u32::from(weight);
+    let added = if member { weight } else { 0 };
+    (total.wrapping_add(weight), held.wrapping_add(added))
+}
 
 impl Weighted {
     // The rule of these weights, one for each replica: 1 to 15, and not all 0.
@@ -28,17 +38,18 @@ impl Weighted {
         })
     }
 
-    // What the replicas that a set holds weigh together.
-    fn weight_of(&self, set: &ReplicaSet) -> u16
-        ensures { result ≡ weigh (weight_at self.now.weights) (member set.now) self.now.replicas }
+    // What all replicas weigh together, and those of them that a set holds.
+    fn weights_of(&self, set: &ReplicaSet) -> (u32, u32)
+        ensures { result ≡ (weigh (weight_at self.now.weights) all self.now.replicas, weigh (weight_at self.now.weights) (member set.now) self.now.replicas) }
     {
         let weights = self.weights.as_slice();
+        // One fold for both: a chain for each takes longer.
         weights
             .iter()
             .zip(0..self.replicas)
-            .filter(|(_, replica)| set.contains(*replica))
-            .map(|(weight, _)| u16::from(*weight))
-            .sum()
+            .fold((0, 0), |(total, held), (weight, replica)| {
+                with_weight(total, held, *weight, set.contains(replica))
+            })
     }
 }
 
@@ -64,8 +75,8 @@ impl Quorum for Weighted {
     }
 
     fn is_quorum(&self, set: &ReplicaSet) -> bool {
-        let held = u32::from(self.weight_of(set));
-        let total = u32::from(self.weight_of(&ReplicaSet::all()));
+        let (total, held) = self.weights_of(set);
+        let (total, held) = (u64::from(total), u64::from(held));
         2 * held > total
     }
 }
