@@ -1,5 +1,5 @@
 // A set of replicas, which are numbered 0 to 14.
-ghost use Rattle.std.specs.Prelude.{◌≡◌, ℕ, ◌<◌, ◌≤◌, true, false, ◌&&◌, ◌||◌, ◌==◌, nat_lt};
+ghost use Rattle.std.specs.Prelude.{◌≡◌, ℕ, ◌≤◌, false, ◌&&◌, ◌||◌, ◌==◌, nat_lt};
 ghost use Rattle.storage.specs.Weights.{counted};
 ghost use Rattle.storage.specs.ReplicaSets.{member, no_replicas, with_replica};
 
@@ -16,13 +16,6 @@ impl ReplicaSet {
         ensures members { (k : ℕ) → member result k ≡ false }
     {
         ReplicaSet { held: [false; 15] }
-    }
-
-    // The set that holds every replica.
-    pub(crate) fn all() -> ReplicaSet
-        ensures { (k : ℕ) → k < 15 → member result k ≡ true }
-    {
-        ReplicaSet { held: [true; 15] }
     }
 
     // Whether the set holds this replica: a number past 14 is in no set.
@@ -54,6 +47,9 @@ impl ReplicaSet {
         ensures number { result ≡ counted (member self.now) end }
         ensures few { result ≤ end }
     {
-        (0..end).filter(|&replica| self.contains(replica)).count()
+        // A sum, and no count of what a filter keeps, which takes some times as long.
+        (0..end)
+            .map(|replica| usize::from(self.contains(replica)))
+            .sum()
     }
 }

@@ -1,15 +1,24 @@
-use Rattle.std.proofs.Common.{◌∙◌, arith, rules, tests}
+use Rattle.std.proofs.Common.{ℕ, ◌∙◌, cond, refl, arith, rules, tests}
 use Rattle.std.specs.List.{range_with_len}
-use Rattle.std.proofs.lemmas.Iterator.Consumers.{YieldsList-from_filter, count_from_yields_List}
-use Rattle.std.proofs.lemmas.Iterator.{YieldsList-from_range}
-use Rattle.std.proofs.lemmas.List.Sums.{length-filter}
+use Rattle.std.proofs.lemmas.Iterator.Consumers.{YieldsList-at, fits_by_from_yields_list, sum_by_from_yields_List}
+use Rattle.std.proofs.lemmas.Iterator.{YieldsList-from_map, YieldsList-from_range}
 use Rattle.storage.specs.Weights.{one}
 use Rattle.storage.specs.ReplicaSets.{member}
-use Rattle.storage.proofs.Weighing.{weigh_sum}
+use Rattle.storage.proofs.Weighing.{weigh_few, weigh_sum}
 use Rattle.storage.proofs.replica_set.ReplicaSet.count_below.Goals as goal
 
-pub returns-clause-number : goal.returns-clause-number
-returns-clause-number c =
+pub sum-requires-clause-fits : goal.sum-requires-clause-fits
+sum-requires-clause-fits c =
+    let n = c.args.end in
     let f = member c.args.self.now in
-    count_from_yields_List c.filter.result _ c.count.ensures.ran (YieldsList-from_filter _ f (YieldsList-from_range 0 c.args.end c.args.end (cc) (omega arith)) c.filter.ensures.closure (λ x b q k. search (rules, tests)))
-    ∙ length-filter f (range_with_len 0 c.args.end) ∙ weigh_sum one f c.args.end
+    let ones : ℕ → ℕ = λ k. cond (f k) 1 0 in
+    fits_by_from_yields_list ones (range_with_len 0 n) c.map.result _ (YieldsList-from_map _ ones (YieldsList-at c.map.ensures.source (YieldsList-from_range 0 n n refl (omega arith))) c.map.ensures.closure (λ x r q k. search (rules, tests)))
+    (omega (arith, weigh_sum one f n, weigh_few f n))
+
+pub returns : goal.returns
+returns c =
+    let n = c.args.end in
+    let f = member c.args.self.now in
+    let ones : ℕ → ℕ = λ k. cond (f k) 1 0 in
+    let number = sum_by_from_yields_List ones (range_with_len 0 n) c.map.result _ c.sum.ensures.ran (YieldsList-from_map _ ones (YieldsList-at c.map.ensures.source (YieldsList-from_range 0 n n refl (omega arith))) c.map.ensures.closure (λ x r q k. search (rules, tests))) ∙ weigh_sum one f n in
+    record { number = number; few = omega (arith, number, weigh_few f n) }
