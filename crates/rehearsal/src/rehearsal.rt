@@ -19,6 +19,15 @@ use storage::{Bid, Entry, Kind, Majority, MemoryStorage, Quorum, Span, Storage};
 #[derive(Clone, Copy, PartialEq, Eq, Debug)]
 pub struct NoMemory;
 
+impl NoMemory {
+    // The number that users know the refusal by.
+    pub fn number(self) -> u8
+        ensures { result ≡ 0 }
+    {
+        MakeError::NoMemory.number()
+    }
+}
+
 impl From<AllocError> for NoMemory {
     fn from(_error: AllocError) -> NoMemory {
         NoMemory
