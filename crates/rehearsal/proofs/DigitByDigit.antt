@@ -16,6 +16,7 @@ abbrev pub Follows : (ℕ → Option ℕ) → Option ℕ → Option ℕ → Type
 Follows rest (Some m) whole = (whole ≡ rest m) × (m < 2 ^ 64)
 Follows rest None whole = whole ≡ None
 
+-- the first digit of a row is appended, or there is none
 pub digit_first : (n b : ℕ) (bs : List ℕ) → Follows (λ m. number_after m bs) (with_digit n b) (number_after n (b ∷ bs))
 digit_first n b bs =
     go (is_ascii_digit b) (ltb m (2 ^ 64)) (all_ascii_digits bs) (ltb whole (2 ^ 64)) refl (ltb-true m (2 ^ 64)) (λ large. le-ltb whole (2 ^ 64) (let least = ltb-false m (2 ^ 64) large in let more = grows m bs in omega arith))

@@ -4,6 +4,8 @@ ghost use Rattle.cluster.specs.Fitness.{of_kind};
 ghost use Rattle.cluster.specs.States.{Does};
 ghost use Rattle.rehearsal.specs.Rehearsals.{heard, is_over, is_waiting, opened_by, register_setup, register_state, replied, stage_of, table_setup, table_state};
 ghost use Rattle.rehearsal.specs.declared.rehearsal.Rehearsal.TheVariants.{Waiting};
+ghost use Rattle.storage.specs.Memories.{made_number};
+ghost use Rattle.storage.specs.declared.stable.memory.MakeError.TheVariants.{NoMemory as without_memory};
 
 use crate::command::event_of;
 use crate::opening::Opening;
@@ -20,9 +22,9 @@ use storage::{Bid, Entry, Kind, Majority, MemoryStorage, Quorum, Span, Storage};
 pub struct NoMemory;
 
 impl NoMemory {
-    // The number that users know the refusal by.
+    // The number that users know the refusal by: that of a storage for which there is no memory.
     pub fn number(self) -> u8
-        ensures { result ≡ 0 }
+        ensures { result ≡ made_number without_memory }
     {
         MakeError::NoMemory.number()
     }

@@ -1,12 +1,12 @@
 -- What a set weighs, as a sum over the numbers from 0 up. Assumes nothing.
-use Rattle.std.proofs.Common.{◌≡◌, ℕ, zero, suc, ◌+◌, ◌*◌, ◌%◌, ◌^◌, ◌<◌, ◌≤◌, Bool, cond, List, [], ◌∷◌, refl, length, map, sym, ap, ◌∙◌, add-one, arith, sum_by, fold}
+use Rattle.std.proofs.Common.{◌≡◌, ℕ, zero, suc, ◌+◌, ◌*◌, ◌^◌, ◌<◌, ◌≤◌, Bool, cond, List, [], ◌∷◌, refl, length, map, sym, ap, ◌∙◌, add-one, arith, sum_by, fold}
 use Rattle.std.specs.List.{range_with_len, zip}
 use Rattle.std.proofs.Math.Nat.{mod-eq_of_lt}
 use Rattle.std.proofs.lemmas.List.{map-id}
 use Rattle.std.proofs.lemmas.List.FromFn.{fill_by_all, get_or-range_with_len, length-range_with_len, sum_by-map-range_with_len_more}
 use Rattle.std.proofs.lemmas.List.Sums.{sum_by-cons}
 use Rattle.std.proofs.lemmas.Slice.Zip.{get_or-zip, length-zip}
-use Rattle.storage.specs.Weights.{one, all, weigh, weight_at}
+use Rattle.storage.specs.Weights.{all, weigh, weight_at, with_weight}
 
 -- what f holds weighs the sum of the weights from 0 up, at 0 for a replica that it does not hold
 pub weigh_sum : (w : ℕ → ℕ) (f : ℕ → Bool) (n : ℕ) → sum_by (λ k. cond (f k) (w k) 0) (range_with_len 0 n) ≡ weigh w f n
@@ -41,21 +41,13 @@ weigh_most w f h (suc n) = one_more (f n) (w n) (weigh w f n) (weigh_most w f h 
     one_more : (b : Bool) (x t : ℕ) → t ≤ 255 * n → x ≤ 255 → t + cond b x 0 ≤ 255 * suc n
     one_more b x t l m = grind arith
 
--- n replicas are n at most
-pub weigh_few : (f : ℕ → Bool) (n : ℕ) → weigh one f n ≤ n
-weigh_few f zero = omega arith
-weigh_few f (suc n) = one_more (f n) (weigh one f n) (weigh_few f n)
-  where
-    one_more : (b : Bool) (t : ℕ) → t ≤ n → t + cond b 1 0 ≤ suc n
-    one_more b t l = grind arith
-
 -- equal parts make equal pairs
 both : {a b c d : ℕ} → a ≡ b → c ≡ d → ◌≡◌ {A = ℕ × ℕ} (a, c) (b, d)
 both j k = cc
 
--- what a fold adds at each replica, at 32 bits: its weight, and that if f holds it
+-- what a fold adds for a weight beside its replica, where f says which are held
 abbrev pub weights_with : (ℕ → Bool) → ℕ × ℕ → ℕ × ℕ → ℕ × ℕ
-weights_with f a p = ((a.0 + p.0) % 2 ^ 32, (a.1 + cond (f p.1) p.0 0) % 2 ^ 32)
+weights_with f sums p = with_weight sums p.0 (f p.1)
 
 -- where both sums have room, the fold gives them
 folded_sums : (f : ℕ → Bool) (ps : List (ℕ × ℕ)) (t h : ℕ) → t + sum_by (λ (p : ℕ × ℕ). p.0) ps < 2 ^ 32 → h + sum_by (λ (p : ℕ × ℕ). cond (f p.1) p.0 0) ps < 2 ^ 32

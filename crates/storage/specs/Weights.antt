@@ -1,5 +1,5 @@
 -- What a set of replicas weighs, and when it weighs enough. Assumes nothing.
-use Rattle.std.specs.Prelude.{ℕ, zero, suc, ◌+◌, ◌*◌, Bool, true, cond, List, nat_lt, slice_index}
+use Rattle.std.specs.Prelude.{ℕ, zero, suc, ◌+◌, ◌*◌, ◌%◌, ◌^◌, Bool, true, cond, List, nat_lt, slice_index}
 
 -- what the replicas below n that f holds weigh together, where replica k weighs w k
 abbrev pub weigh : (ℕ → ℕ) → (ℕ → Bool) → ℕ → ℕ
@@ -21,6 +21,11 @@ counted f n = weigh one f n
 -- the weight of replica k in a list of weights, 0 past its end
 abbrev pub weight_at : List ℕ → ℕ → ℕ
 weight_at ws k = slice_index ws k
+
+-- the weights of all and of a set so far, with one replica more. Modulo 2^32, to be a sum of 32 bits at any
+-- numbers: the weights of 15 replicas never get there.
+abbrev pub with_weight : ℕ × ℕ → ℕ → Bool → ℕ × ℕ
+with_weight sums weight member = ((sums.0 + weight) % 2 ^ 32, (sums.1 + cond member weight 0) % 2 ^ 32)
 
 -- the rule of weights: twice the weight of the set exceeds the weight of all n replicas
 abbrev pub heavy : (ℕ → ℕ) → ℕ → (ℕ → Bool) → Bool

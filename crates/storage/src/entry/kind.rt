@@ -1,6 +1,6 @@
 // The kinds of entry, each with the number by which a file and a first line name it.
 ghost use Rattle.std.specs.Prelude.{◌≡◌, Ok};
-ghost use Rattle.storage.specs.Kinds.{kind_number, kind_of};
+ghost use Rattle.storage.specs.Kinds.{kind_number, kind_of, no_kind_number};
 
 use crate::entry::Entry;
 use crate::entry::bid::Bid;
@@ -20,7 +20,7 @@ pub struct NoSuchKind(pub u64);
 impl NoSuchKind {
     // The number that users know the refusal by: that of a file of another kind.
     pub fn number(self) -> u8
-        ensures { result ≡ 3 }
+        ensures { result ≡ no_kind_number self }
     {
         OpenRefusal::Kind.number()
     }

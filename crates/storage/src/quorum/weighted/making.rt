@@ -1,7 +1,7 @@
 // Making a rule of weights, and what it answers.
-ghost use Rattle.std.specs.Prelude.{◌≡◌, ◌+◌, ◌%◌, ◌^◌, cond};
+ghost use Rattle.std.specs.Prelude.{◌≡◌};
 ghost use Rattle.storage.specs.Quorums.{weighted_of, weighted_enough};
-ghost use Rattle.storage.specs.Weights.{weigh, all, weight_at};
+ghost use Rattle.storage.specs.Weights.{weigh, all, weight_at, with_weight};
 ghost use Rattle.storage.specs.ReplicaSets.{member};
 ghost use Rattle.storage.specs.Meeting.{heavy_laws};
 
@@ -10,10 +10,9 @@ use crate::quorum::Quorum;
 use crate::quorum::refusal::{QuorumRefusal, check_count};
 use crate::replica_set::ReplicaSet;
 
-// The weights of all replicas and of a set, with one more replica. The sums are taken modulo 2^32,
-// to be safe at any arguments: the weights of 15 replicas never get there.
+// The weights of all replicas and of a set so far, with one replica more.
 fn with_weight(total: u32, held: u32, weight: u8, member: bool) -> (u32, u32)
-    ensures { result ≡ ((total + weight) % 2 ^ 32, (held + cond member weight 0) % 2 ^ 32) }
+    ensures { result ≡ with_weight (total, held) weight member }
 {
     let weight = u32::from(weight);
     let added = if member { weight } else { 0 };
